@@ -6,13 +6,13 @@ use std::alloc::{AllocError, Global};
 /// What a thread is up to.
 #[derive(Clone, Copy, Debug, PartialEq, Eq)]
 pub enum Status {
-    /// It is not there yet.
+    /// The thread is not there yet.
     Absent,
-    /// It runs, or waits for its turn.
+    /// The thread runs, or waits for its turn.
     Ready,
-    /// It sleeps until another thread wakes it.
+    /// The thread sleeps until another thread wakes it.
     Asleep,
-    /// It is at its end.
+    /// The thread is at its end.
     Gone,
 }
 

@@ -4,27 +4,27 @@ use crate::calls::CallName;
 /// What a thread does in its turn.
 #[derive(Clone, Copy, Debug, PartialEq, Eq)]
 pub enum Deed {
-    /// It begins its part of the program.
+    /// The thread begins its part of the program.
     Begin,
-    /// It makes a call, of this name.
+    /// The thread makes a call, of this name.
     Call(CallName),
-    /// It looks at a lock.
+    /// The thread looks at a lock.
     Look,
-    /// It takes one step on a word.
+    /// The thread takes one step on a word.
     Step,
-    /// It draws a new word.
+    /// The thread draws a new word.
     Draw,
-    /// It enters a section.
+    /// The thread enters a section.
     Enter,
-    /// It goes on after a sleep.
+    /// The thread goes on after a sleep.
     Wake,
-    /// It is in a timed sleep, and looks whether its time is up.
+    /// The thread is in a timed sleep, and looks whether its time is up.
     Nap,
-    /// Its time is up, and it gives up a timed sleep.
+    /// The time of the thread is up, and it gives up a timed sleep.
     Late,
-    /// Its time was up before it slept, in the turn of its call.
+    /// The time of the thread was up before it slept, in the turn of its call.
     LateAtOnce,
-    /// It ends its part of the program.
+    /// The thread ends its part of the program.
     End,
 }
 

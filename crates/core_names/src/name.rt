@@ -16,12 +16,12 @@ ghost use Rattle.core_words.specs.declared.words.WordKind.TheVariants.{Count, Mu
 ghost use Rattle.core_names.specs.Shares.{counting, rest_of, sharing, steps_alone, without_steps};
 
 use crate::plays::{
-    CountPick, Draws, GivesShare, LooksNamed, LooksOwn, PassesSteps, SeesOwn, SeesTwo, StoresLess,
+    CountTag, Draws, GivesShare, LooksNamed, LooksOwn, PassesSteps, SeesOwn, SeesTwo, StoresLess,
     StoresMore, TakesShare,
 };
 use core_parts::seats::{join_seat, split_seat};
 use core_parts::{Permit, PermitSlot, Permits};
-use core_words::plays::{OwnershipRule, PermitPick};
+use core_words::plays::{OwnershipRule, PermitTag};
 use core_words::{LotWords, OpenHeld, Seat, View, Word};
 use std::marker::Brand;
 
@@ -49,10 +49,10 @@ impl Name {
         ensures first { IsNamer words.now (thread + 1) first.new }
         ensures name { IsNameOf words.now thread result }
     {
-        Name::draw_picked::<Brand>(words, first, thread)
+        Name::draw_tagged::<Brand>(words, first, thread)
     }
 
-    fn draw_picked<C: CountPick>(words: &LotWords, first: &mut Seat, thread: usize) -> Name
+    fn draw_tagged<C: CountTag>(words: &LotWords, first: &mut Seat, thread: usize) -> Name
         requires pick { C.thread ≡ thread }
         requires own { IsNamer words.now thread first.old }
         ensures first { IsNamer words.now (thread + 1) first.new }
@@ -97,13 +97,13 @@ impl Name {
         ensures same { (said : ℕ) → Says count.number said self.old
             → (result ≡ said) × Says count.number said self.new }
     {
-        let seen = self.look_picked::<Brand, Brand>(words, thread, count);
+        let seen = self.look_tagged::<Brand, Brand>(words, thread, count);
         self.pass_steps(words, seat);
         seen
     }
 
     #[inline]
-    fn look_picked<C: CountPick, P: PermitPick>(
+    fn look_tagged<C: CountTag, P: PermitTag>(
         &mut self,
         words: &LotWords,
         thread: usize,
@@ -138,7 +138,7 @@ impl Name {
             × Says count.number result self.new }
     {
         self.take_share(words, thread, count, share);
-        self.see_picked::<Brand>(words, thread, count)
+        self.see_tagged::<Brand>(words, thread, count)
     }
 
     #[inline]
@@ -159,7 +159,7 @@ impl Name {
     }
 
     #[inline]
-    fn see_picked<C: CountPick>(&mut self, words: &LotWords, thread: usize, count: Word) -> u64
+    fn see_tagged<C: CountTag>(&mut self, words: &LotWords, thread: usize, count: Word) -> u64
         requires pick { C.thread ≡ thread }
         requires own { IsNameOf words.now thread self.old × IsWordOf words.now count
             × (count.kind ≡ Count) }
@@ -198,13 +198,13 @@ impl Name {
             × Says count.number result self.new }
     {
         self.take_share(words, thread, count, share);
-        let seen = self.look_own_picked::<Brand, Brand>(words, thread, count);
+        let seen = self.look_own_tagged::<Brand, Brand>(words, thread, count);
         self.pass_steps(words, seat);
         seen
     }
 
     #[inline]
-    fn look_own_picked<C: CountPick, P: PermitPick>(
+    fn look_own_tagged<C: CountTag, P: PermitTag>(
         &mut self,
         words: &LotWords,
         thread: usize,
@@ -238,11 +238,11 @@ impl Name {
         ensures rest { shares_of self.old
             ≡ sharing (count_at count.number) thread ∷ shares_of self.new }
     {
-        self.give_picked::<Brand>(words, thread, count)
+        self.give_tagged::<Brand>(words, thread, count)
     }
 
     #[inline]
-    fn give_picked<C: CountPick>(
+    fn give_tagged<C: CountTag>(
         &mut self,
         words: &LotWords,
         thread: usize,
@@ -289,12 +289,12 @@ impl Name {
         ensures shares { shares_of self.new
             ≡ sharing (count_at count.number) thread ∷ shares_of self.old }
     {
-        self.more_picked::<Brand>(words, thread, count, said, next);
+        self.more_tagged::<Brand>(words, thread, count, said, next);
         self.pass_steps(words, seat);
     }
 
     #[inline]
-    fn more_picked<C: CountPick>(
+    fn more_tagged<C: CountTag>(
         &mut self,
         words: &LotWords,
         thread: usize,
@@ -345,12 +345,12 @@ impl Name {
             ≡ stepping seat.old.me.0 (count_at count.number) (Store next) said }
         ensures says { Says count.number next self.new }
     {
-        self.less_picked::<Brand>(words, thread, count, said, next);
+        self.less_tagged::<Brand>(words, thread, count, said, next);
         self.pass_steps(words, seat);
     }
 
     #[inline]
-    fn less_picked<C: CountPick>(
+    fn less_tagged<C: CountTag>(
         &mut self,
         words: &LotWords,
         thread: usize,
@@ -441,7 +441,7 @@ impl CountShare {
     }
 
     #[inline]
-    fn see_two<C: CountPick, D: CountPick>(&mut self, words: &LotWords, count: Word) -> u64
+    fn see_two<C: CountTag, D: CountTag>(&mut self, words: &LotWords, count: Word) -> u64
         requires own { (self.old.seat.table_id ≡ words.now.table.shared.table_id)
             × IsWordOf words.now count × (count.kind ≡ Count) }
         requires shares { self.old.seat.me.0.shares ≡ sharing (count_at count.number) D.thread

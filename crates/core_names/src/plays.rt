@@ -8,12 +8,12 @@ ghost use Rattle.core_names.specs.Shares.{without_steps, steps_alone};
 use atomic_table::{Join, Play, Split};
 use core_parts::PermitSlot;
 use core_words::View;
-use core_words::plays::PermitPick;
+use core_words::plays::PermitTag;
 use std::marker::{Brand, PhantomData};
 
 /// Picks a count at each call: the number of the thread that it is to name, the index at which it
 /// stands, and what it says.
-pub trait CountPick {
+pub trait CountTag {
     ghost thread: { ℕ };
 
     ghost at: { ℕ };
@@ -21,7 +21,7 @@ pub trait CountPick {
     ghost said: { ℕ };
 }
 
-impl CountPick for Brand {
+impl CountTag for Brand {
     ghost thread = { 0 };
 
     ghost at = { 0 };
@@ -30,76 +30,76 @@ impl CountPick for Brand {
 }
 
 /// A load of a count, as a step. A thread that it names says it.
-pub struct LooksNamed<C: CountPick, P: PermitPick> {
+pub struct LooksNamed<C: CountTag, P: PermitTag> {
     pick: PhantomData<(C, P)>,
 }
 
-impl<C: CountPick, P: PermitPick> Play<PermitSlot, View> for LooksNamed<C, P> {
+impl<C: CountTag, P: PermitTag> Play<PermitSlot, View> for LooksNamed<C, P> {
     ghost then = { looks_named P.family C.thread };
 }
 
 /// A load of a count of which a name has a share, which is no step.
-pub struct SeesOwn<C: CountPick> {
+pub struct SeesOwn<C: CountTag> {
     pick: PhantomData<C>,
 }
 
-impl<C: CountPick> Play<PermitSlot, View> for SeesOwn<C> {
+impl<C: CountTag> Play<PermitSlot, View> for SeesOwn<C> {
     ghost then = { sees_own C.thread };
 }
 
 /// A load of a count of which a name has a share, as a step.
-pub struct LooksOwn<C: CountPick, P: PermitPick> {
+pub struct LooksOwn<C: CountTag, P: PermitTag> {
     pick: PhantomData<(C, P)>,
 }
 
-impl<C: CountPick, P: PermitPick> Play<PermitSlot, View> for LooksOwn<C, P> {
+impl<C: CountTag, P: PermitTag> Play<PermitSlot, View> for LooksOwn<C, P> {
     ghost then = { looks_own P.family C.thread };
 }
 
 /// A load of a count by two shares, which is no step. Each thread that has one is named.
-pub struct SeesTwo<C: CountPick, D: CountPick> {
+pub struct SeesTwo<C: CountTag, D: CountTag> {
     pick: PhantomData<(C, D)>,
 }
 
-impl<C: CountPick, D: CountPick> Play<PermitSlot, View> for SeesTwo<C, D> {
+impl<C: CountTag, D: CountTag> Play<PermitSlot, View> for SeesTwo<C, D> {
     ghost then = { sees_two C.thread D.thread };
 }
 
 /// A store that counts once more.
-pub struct StoresMore<C: CountPick> {
+pub struct StoresMore<C: CountTag> {
     pick: PhantomData<C>,
 }
 
-impl<C: CountPick> Play<PermitSlot, View> for StoresMore<C> {
+impl<C: CountTag> Play<PermitSlot, View> for StoresMore<C> {
     ghost then = { stores_more C.thread C.said };
 }
 
 /// A store that counts once less.
-pub struct StoresLess<C: CountPick> {
+pub struct StoresLess<C: CountTag> {
     pick: PhantomData<C>,
 }
 
-impl<C: CountPick> Play<PermitSlot, View> for StoresLess<C> {
+impl<C: CountTag> Play<PermitSlot, View> for StoresLess<C> {
     ghost then = { stores_less C.said };
 }
 
 /// The number of a thread goes to a name of its own.
-pub struct Draws<C: CountPick> {
+pub struct Draws<C: CountTag> {
     pick: PhantomData<C>,
 }
 
-impl<C: CountPick> Split<View> for Draws<C> {
+impl<C: CountTag> Split<View> for Draws<C> {
     ghost left = { λ _. namer_from (C.thread + 1) };
 
     ghost right = { λ _. named C.thread };
 }
 
 /// A share goes to a seat of its own.
-pub struct GivesShare<C: CountPick> {
+pub struct GivesShare<C: CountTag> {
     pick: PhantomData<C>,
 }
 
-impl<C: CountPick> Split<View> for GivesShare<C> {
+impl<C: CountTag> Split<View> for GivesShare<C> {
     ghost left = { without_first_share };
 
     ghost right = { λ _. share_view C.at C.thread };

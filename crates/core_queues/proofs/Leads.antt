@@ -12,7 +12,7 @@ use Rattle.core_queues.specs.Links.{standing_record, record_of, next_in, next_of
 use Rattle.core_queues.specs.Links.{chain_from, Leads}
 use Rattle.core_queues.specs.declared.records.Record.{Record}
 
--- they lead to one end
+-- both lead to one end
 one_end : (records : List (Option Record)) (from : Option ℕ) (xs ys : List Waiter) → Leads records from xs
     → Leads records from ys → length xs ≡ length ys
 one_end records from [] [] a b = refl
@@ -101,7 +101,7 @@ nobody_without records from (x ∷ xs) thread none a =
     ∙ ap (record_of records) (sym same) ∙ a.1 in cc in
     grind (arith, nat_tests, nobody_without records (next_of records x.thread) xs thread none a.2)
 
--- they are shown as they lead
+-- records are shown as they lead
 pub chain_is : (records : List (Option Record)) (n : ℕ) (from : Option ℕ) (xs : List Waiter) → length xs ≤ n
     → Leads records from xs → chain_from records n from ≡ xs
 chain_is records zero from [] h a = refl
@@ -112,7 +112,7 @@ chain_is records (suc n) from (x ∷ xs) h a =
     let here : waiters_of_record x.thread (record_of records x.thread) ≡ x ∷ [] = rw a.1 refl in
     rw (a.0, here, more) refl
 
--- they lead through the same where the records of these are the same
+-- chains lead through the same where their records are the same
 pub leads_kept : (records others : List (Option Record)) (from : Option ℕ) (xs : List Waiter)
     → ((thread : ℕ) → 1 ≤ times thread xs → record_of others thread ≡ record_of records thread)
     → Leads records from xs → Leads others from xs

@@ -99,7 +99,7 @@ module _ (permits at : ℕ) (owns : List Ownership) where
 pub semaphore_steps : SemaphoreMaySteps
 semaphore_steps permits at owns = semaphore_steps_at permits at owns
 
--- ---------------------------------------------------------------- their trades
+-- ---------------------------------------------------------------- the trades
 
 holds_all : (at many : ℕ) (owns : List Ownership) → HasAll at (so_many_shared many) (holding at many ++ owns)
 holds_all at zero owns = tt

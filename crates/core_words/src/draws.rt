@@ -7,7 +7,7 @@ ghost use Rattle.core_words.specs.Indices.{permits_in, word_index};
 ghost use Rattle.core_words.specs.Steps.{holding};
 ghost use Rattle.core_words.specs.declared.words.WordKind.TheVariants.{Mutex, Count, Semaphore};
 
-use crate::plays::{Draws, DrawsPermits, Kinds, Looks, ManyPick};
+use crate::plays::{Draws, DrawsPermits, Kinds, Looks, ManyTag};
 use crate::table::{LotWords, Seat};
 use crate::words::{Word, WordKind};
 use core_base::Fault;
@@ -86,7 +86,7 @@ impl LotWords {
     }
 
     // Draws a semaphore's word, with all its permits. It gives the number.
-    fn draw_permits<M: ManyPick>(&self, seat: &mut Seat, permits: u64) -> Option<usize>
+    fn draw_permits<M: ManyTag>(&self, seat: &mut Seat, permits: u64) -> Option<usize>
         requires own { IsSeatOf self.now seat.old }
         requires many { (M.many ≡ permits) × (permits ≤ 2 ^ 62) }
         ensures own { IsSeatOf self.now seat.new }

@@ -12,7 +12,7 @@ ghost use Rattle.core_words.specs.Steps.{after_step};
 ghost use Rattle.core_words.specs.Views.{shown};
 ghost use Rattle.core_words.specs.declared.words.WordKind.TheVariants.{Semaphore};
 
-use crate::plays::{NumberPick, PermitPick, SeesFree};
+use crate::plays::{NumberTag, PermitTag, SeesFree};
 use crate::table::{LotWords, Seat};
 use crate::words::Word;
 use std::marker::Brand;
@@ -21,7 +21,7 @@ impl LotWords {
     ghost use Rattle.core_words.specs.Lots.{IsSeatOf, IsWordOf};
 
     #[inline]
-    fn free_picked<N: NumberPick, P: PermitPick>(&self, seat: &mut Seat, semaphore: Word) -> u64
+    fn free_tagged<N: NumberTag, P: PermitTag>(&self, seat: &mut Seat, semaphore: Word) -> u64
         requires pick { (N.number ≡ semaphore.number)
             × (P.family ≡ self.now.table.shared.key.1.family) }
         requires own { IsSeatOf self.now seat.old × IsWordOf self.now semaphore
@@ -48,6 +48,6 @@ impl LotWords {
             (word_index semaphore.number (Semaphore 0)) Load result seat.old.me.0 }
         ensures within { WithinPermits semaphore.number result seat.old.me.0 }
     {
-        self.free_picked::<Brand, Brand>(seat, semaphore)
+        self.free_tagged::<Brand, Brand>(seat, semaphore)
     }
 }

@@ -22,7 +22,7 @@ ghost use Rattle.core_words.specs.declared.owners.Owner.TheVariants.{Exclusive};
 ghost use Rattle.core_words.specs.declared.words.WordKind.TheVariants.{Mutex};
 
 use crate::plays::{
-    Enters, GoesOn, GoesOnAs, KeepsOwner, Leaves, LeavesAlone, Ors, OwnershipRule, PermitPick,
+    Enters, GoesOn, GoesOnAs, KeepsOwner, Leaves, LeavesAlone, Ors, OwnershipRule, PermitTag,
     PutsBack, SeesLocked, TakesOut, TriesSeen,
 };
 use crate::table::{LotWords, Seat};
@@ -51,7 +51,7 @@ impl LotWords {
     // The permit of a mutex that the seat owns is out with it from here on, and no other. It loads
     // the counter: a load of a word that was just written would wait for that.
     #[inline]
-    fn mark_permit_out<P: PermitPick>(&self, seat: &mut Seat, word: Word)
+    fn mark_permit_out<P: PermitTag>(&self, seat: &mut Seat, word: Word)
         requires pick { (P.family ≡ self.now.table.shared.key.1.family)
             × (P.at ≡ word_index word.number word.kind) }
         requires own { IsSeatOf self.now seat.old × IsWordOf self.now word × (word.kind ≡ Mutex) }
@@ -83,7 +83,7 @@ impl LotWords {
 
     // Returns the seat of a mutex's owner, split off one with which the mutex's permit is out.
     #[inline]
-    fn split_owner_seat<P: PermitPick>(&self, seat: &mut Seat, word: Word) -> Seat
+    fn split_owner_seat<P: PermitTag>(&self, seat: &mut Seat, word: Word) -> Seat
         requires pick { P.at ≡ word_index word.number word.kind }
         requires own { IsSeatOf self.now seat.old × IsWordOf self.now word × (word.kind ≡ Mutex) }
         requires out { seat.old.me.0.out ≡ word_index word.number word.kind ∷ [] }
@@ -102,7 +102,7 @@ impl LotWords {
 
     // Steps whatever permit is out, by a seat that owns the mutex.
     #[inline]
-    fn split_picked<P: PermitPick>(&self, seat: &mut Seat, word: Word) -> Seat
+    fn split_picked<P: PermitTag>(&self, seat: &mut Seat, word: Word) -> Seat
         requires pick { (P.family ≡ self.now.table.shared.key.1.family)
             × (P.at ≡ word_index word.number word.kind) }
         requires own { IsSeatOf self.now seat.old × IsWordOf self.now word × (word.kind ≡ Mutex) }
@@ -185,7 +185,7 @@ impl LotWords {
 
     // The steps that enter and leave, in which the pick says whose permit it is.
     #[inline]
-    fn enter_picked<P: PermitPick>(
+    fn enter_tagged<P: PermitTag>(
         &self,
         seat: &mut Seat,
         word: Word,
@@ -220,7 +220,7 @@ impl LotWords {
     // A try where the parked bit has changed since the word was seen unlocked. It is inlined: a
     // call would be given a copy of the word, which each try would make beforehand.
     #[inline]
-    fn try_again<P: PermitPick>(
+    fn try_again<P: PermitTag>(
         &self,
         seat: &mut Seat,
         word: Word,
@@ -247,7 +247,7 @@ impl LotWords {
     }
 
     #[inline]
-    fn try_enter_picked<P: PermitPick>(
+    fn try_enter_tagged<P: PermitTag>(
         &self,
         seat: &mut Seat,
         word: Word,
@@ -282,7 +282,7 @@ impl LotWords {
     }
 
     #[inline]
-    fn leave_picked<P: PermitPick>(&self, owner: &mut Seat, word: Word, locked: u64) -> u64
+    fn leave_tagged<P: PermitTag>(&self, owner: &mut Seat, word: Word, locked: u64) -> u64
         requires pick { P.family ≡ self.now.table.shared.key.1.family }
         requires own { IsOwnerOf self.now word owner.old × IsWordOf self.now word
             × (word.kind ≡ Mutex) }
@@ -299,7 +299,7 @@ impl LotWords {
     }
 
     #[inline]
-    fn leave_alone_picked<P: PermitPick>(&self, owner: &mut Seat, word: Word, locked: u64) -> u64
+    fn leave_alone_tagged<P: PermitTag>(&self, owner: &mut Seat, word: Word, locked: u64) -> u64
         requires pick { P.family ≡ self.now.table.shared.key.1.family }
         requires own { IsOwnerOf self.now word owner.old × IsWordOf self.now word
             × (word.kind ≡ Mutex) }
@@ -325,7 +325,7 @@ impl LotWords {
     ///
     /// What the word was, where the step did not take the mutex.
     #[inline]
-    pub fn enter_open(
+    pub fn lock_with_permit(
         &self,
         seat: &mut Seat,
         word: Word,
@@ -346,13 +346,17 @@ impl LotWords {
         ensures opened { IfOk result
             (λ taken. IsOpenOf self.now word taken.0 × (taken.1.id ≡ permit_of self.now word)) }
     {
-        self.enter_picked::<Brand>(seat, word, unlocked)
+        self.enter_tagged::<Brand>(seat, word, unlocked)
     }
 
     /// Locks where others may wait. Returns what the step saw, and writes nothing to a mutex that
     /// it sees locked.
     #[inline]
-    pub fn try_enter_open(&self, seat: &mut Seat, word: Word) -> (u64, Option<(OpenHeld, Permit)>)
+    pub fn try_lock_with_permit(
+        &self,
+        seat: &mut Seat,
+        word: Word,
+    ) -> (u64, Option<(OpenHeld, Permit)>)
         requires own { IsSeatOf self.now seat.old × IsWordOf self.now word × (word.kind ≡ Mutex) }
         ensures own { IsSeatOf self.now seat.new }
         ensures stepped { shown seat.new.me.0
@@ -363,14 +367,14 @@ impl LotWords {
             (λ taken. (result.0 % 2 ≡ 0) × IsOpenOf self.now word taken.0
             × (taken.1.id ≡ permit_of self.now word)) }
     {
-        self.try_enter_picked::<Brand>(seat, word)
+        self.try_enter_tagged::<Brand>(seat, word)
     }
 
     /// Gives a mutex up, and lays the permit of its value back with the same step. Returns the
     /// value before. It takes 1 from the mutex's word, or 0: then it is no step, and gives the
     /// mutex back.
     #[inline]
-    pub fn leave_open(
+    pub fn unlock_with_permit(
         &self,
         seat: &mut Seat,
         word: Word,
@@ -390,7 +394,7 @@ impl LotWords {
     {
         let mut owner = self.close(word, opened, permit);
         // The subtraction is asked for nothing else, so that its flags answer the comparison.
-        if self.leave_picked::<Brand>(&mut owner, word, locked) == locked {
+        if self.leave_tagged::<Brand>(&mut owner, word, locked) == locked {
             self.join_steps(seat, owner);
             return Ok(LOCKED);
         }
@@ -404,7 +408,7 @@ impl LotWords {
     /// Unlocks where nobody waits. Where somebody does, the seat owns the mutex, and the permit is
     /// out with it still.
     #[inline]
-    pub fn leave_open_alone(
+    pub fn unlock_if_alone(
         &self,
         seat: &mut Seat,
         word: Word,
@@ -423,7 +427,7 @@ impl LotWords {
             × IsOpenOf self.now word kept.0 × (kept.1.id ≡ permit_of self.now word)) }
     {
         let mut owner = self.close(word, opened, permit);
-        if self.leave_alone_picked::<Brand>(&mut owner, word, locked) == locked {
+        if self.leave_alone_tagged::<Brand>(&mut owner, word, locked) == locked {
             self.join_steps(seat, owner);
             return Ok(LOCKED);
         }

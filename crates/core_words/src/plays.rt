@@ -26,79 +26,79 @@ impl TableRule<PermitSlot, View, (usize, Permits)> for OwnershipRule {
 }
 
 /// Picks permits at each call: where those of a lot come from, and beside which word one lies.
-pub trait PermitPick {
+pub trait PermitTag {
     ghost family: { ℕ };
 
     ghost at: { ℕ };
 }
 
-impl PermitPick for Brand {
+impl PermitTag for Brand {
     ghost family = { 0 };
 
     ghost at = { 0 };
 }
 
-pub struct Loads<P: PermitPick> {
+pub struct Loads<P: PermitTag> {
     pick: PhantomData<P>,
 }
 
-impl<P: PermitPick> Play<PermitSlot, View> for Loads<P> {
+impl<P: PermitTag> Play<PermitSlot, View> for Loads<P> {
     ghost then = { loads P.family };
 }
 
-pub struct Stores<P: PermitPick> {
+pub struct Stores<P: PermitTag> {
     pick: PhantomData<P>,
 }
 
-impl<P: PermitPick> Play<PermitSlot, View> for Stores<P> {
+impl<P: PermitTag> Play<PermitSlot, View> for Stores<P> {
     ghost then = { stores P.family };
 }
 
-pub struct Swaps<P: PermitPick> {
+pub struct Swaps<P: PermitTag> {
     pick: PhantomData<P>,
 }
 
-impl<P: PermitPick> Play<PermitSlot, View> for Swaps<P> {
+impl<P: PermitTag> Play<PermitSlot, View> for Swaps<P> {
     ghost then = { swaps P.family };
 }
 
-pub struct Adds<P: PermitPick> {
+pub struct Adds<P: PermitTag> {
     pick: PhantomData<P>,
 }
 
-impl<P: PermitPick> Play<PermitSlot, View> for Adds<P> {
+impl<P: PermitTag> Play<PermitSlot, View> for Adds<P> {
     ghost then = { adds P.family };
 }
 
-pub struct Subs<P: PermitPick> {
+pub struct Subs<P: PermitTag> {
     pick: PhantomData<P>,
 }
 
-impl<P: PermitPick> Play<PermitSlot, View> for Subs<P> {
+impl<P: PermitTag> Play<PermitSlot, View> for Subs<P> {
     ghost then = { subs P.family };
 }
 
-pub struct Ors<P: PermitPick> {
+pub struct Ors<P: PermitTag> {
     pick: PhantomData<P>,
 }
 
-impl<P: PermitPick> Play<PermitSlot, View> for Ors<P> {
+impl<P: PermitTag> Play<PermitSlot, View> for Ors<P> {
     ghost then = { ors P.family };
 }
 
-pub struct Ands<P: PermitPick> {
+pub struct Ands<P: PermitTag> {
     pick: PhantomData<P>,
 }
 
-impl<P: PermitPick> Play<PermitSlot, View> for Ands<P> {
+impl<P: PermitTag> Play<PermitSlot, View> for Ands<P> {
     ghost then = { ands P.family };
 }
 
-pub struct Exchanges<P: PermitPick> {
+pub struct Exchanges<P: PermitTag> {
     pick: PhantomData<P>,
 }
 
-impl<P: PermitPick> Play<PermitSlot, View> for Exchanges<P> {
+impl<P: PermitTag> Play<PermitSlot, View> for Exchanges<P> {
     ghost then = { exchanges P.family };
 }
 
@@ -113,33 +113,33 @@ impl Bits for Brand {
 
 /// A load in place of an or, which is that or where it finds the bits set, and else no step of a
 /// call.
-pub struct SawSet<B: Bits, P: PermitPick> {
+pub struct SawSet<B: Bits, P: PermitTag> {
     pick: PhantomData<(B, P)>,
 }
 
-impl<B: Bits, P: PermitPick> Play<PermitSlot, View> for SawSet<B, P> {
+impl<B: Bits, P: PermitTag> Play<PermitSlot, View> for SawSet<B, P> {
     ghost then = { saw_set P.family B.bits };
 }
 
 /// A condition variable of a lot, picked at each call: how many words the lot has, and its number.
-pub trait CondvarPick {
+pub trait CondvarTag {
     ghost words: { ℕ };
 
     ghost number: { ℕ };
 }
 
-impl CondvarPick for Brand {
+impl CondvarTag for Brand {
     ghost words = { 0 };
 
     ghost number = { 0 };
 }
 
 /// A load of its word, which tells what it may show.
-pub struct SeesShown<C: CondvarPick, P: PermitPick> {
+pub struct SeesShown<C: CondvarTag, P: PermitTag> {
     pick: PhantomData<(C, P)>,
 }
 
-impl<C: CondvarPick, P: PermitPick> Play<PermitSlot, View> for SeesShown<C, P> {
+impl<C: CondvarTag, P: PermitTag> Play<PermitSlot, View> for SeesShown<C, P> {
     ghost then = { sees_shown P.family C.words C.number };
 }
 
@@ -169,39 +169,39 @@ impl<S, K: Kinds> Play<S, View> for Draws<K> {
 }
 
 /// With how many permits a semaphore's word is drawn, picked at each call.
-pub trait ManyPick {
+pub trait ManyTag {
     ghost many: { ℕ };
 }
 
-impl ManyPick for Brand {
+impl ManyTag for Brand {
     ghost many = { 0 };
 }
 
 /// A draw of such a word.
-pub struct DrawsPermits<M: ManyPick> {
+pub struct DrawsPermits<M: ManyTag> {
     many: PhantomData<M>,
 }
 
-impl<S, M: ManyPick> Play<S, View> for DrawsPermits<M> {
+impl<S, M: ManyTag> Play<S, View> for DrawsPermits<M> {
     ghost then = { draws_permits M.many };
 }
 
 /// The number of a semaphore's word, picked at each call.
-pub trait NumberPick {
+pub trait NumberTag {
     ghost number: { ℕ };
 }
 
-impl NumberPick for Brand {
+impl NumberTag for Brand {
     ghost number = { 0 };
 }
 
 /// A load of such a word, which tells how many permits may be free.
-pub struct SeesFree<N: NumberPick, P: PermitPick> {
+pub struct SeesFree<N: NumberTag, P: PermitTag> {
     number: PhantomData<N>,
     pick: PhantomData<P>,
 }
 
-impl<N: NumberPick, P: PermitPick> Play<PermitSlot, View> for SeesFree<N, P> {
+impl<N: NumberTag, P: PermitTag> Play<PermitSlot, View> for SeesFree<N, P> {
     ghost then = { sees_free P.family N.number };
 }
 
@@ -243,57 +243,57 @@ impl Split<View> for SeatsAnother {
 
 /// A load in place of a try, which is that try where it finds the mutex locked, and else no step of
 /// a call.
-pub struct SeesLocked<P: PermitPick> {
+pub struct SeesLocked<P: PermitTag> {
     pick: PhantomData<P>,
 }
 
-impl<P: PermitPick> Play<PermitSlot, View> for SeesLocked<P> {
+impl<P: PermitTag> Play<PermitSlot, View> for SeesLocked<P> {
     ghost then = { sees_locked P.family };
 }
 
 /// An exchange in place of a try, where the mutex was seen unlocked: that try where it finds the
 /// same, or finds the mutex locked, and else no step of a call.
-pub struct TriesSeen<P: PermitPick> {
+pub struct TriesSeen<P: PermitTag> {
     pick: PhantomData<P>,
 }
 
-impl<P: PermitPick> Play<PermitSlot, View> for TriesSeen<P> {
+impl<P: PermitTag> Play<PermitSlot, View> for TriesSeen<P> {
     ghost then = { tries_seen P.family };
 }
 
 /// An exchange by which a mutex is entered, where it expects an unlocked mutex, and else no step.
-pub struct Enters<P: PermitPick> {
+pub struct Enters<P: PermitTag> {
     pick: PhantomData<P>,
 }
 
-impl<P: PermitPick> Play<PermitSlot, View> for Enters<P> {
+impl<P: PermitTag> Play<PermitSlot, View> for Enters<P> {
     ghost then = { takes_mutex P.family };
 }
 
 /// A subtraction by which it is given up, where that takes the locked bit, and else no step.
-pub struct Leaves<P: PermitPick> {
+pub struct Leaves<P: PermitTag> {
     pick: PhantomData<P>,
 }
 
-impl<P: PermitPick> Play<PermitSlot, View> for Leaves<P> {
+impl<P: PermitTag> Play<PermitSlot, View> for Leaves<P> {
     ghost then = { gives_mutex_up P.family };
 }
 
 /// Leaves by an exchange, where nobody waits.
-pub struct LeavesAlone<P: PermitPick> {
+pub struct LeavesAlone<P: PermitTag> {
     pick: PhantomData<P>,
 }
 
-impl<P: PermitPick> Play<PermitSlot, View> for LeavesAlone<P> {
+impl<P: PermitTag> Play<PermitSlot, View> for LeavesAlone<P> {
     ghost then = { leaves_alone P.family };
 }
 
 /// The permit of a mutex goes out with a thread that owns that.
-pub struct TakesOut<P: PermitPick> {
+pub struct TakesOut<P: PermitTag> {
     pick: PhantomData<P>,
 }
 
-impl<P: PermitPick> Change<PermitSlot, View> for TakesOut<P> {
+impl<P: PermitTag> Change<PermitSlot, View> for TakesOut<P> {
     ghost then = { takes_out P.family P.at };
 }
 
@@ -305,11 +305,11 @@ impl Change<PermitSlot, View> for PutsBack {
 }
 
 /// A seat keeps the mutex whose permit is out with it, and another goes on with all else.
-pub struct KeepsOwner<P: PermitPick> {
+pub struct KeepsOwner<P: PermitTag> {
     pick: PhantomData<P>,
 }
 
-impl<P: PermitPick> Split<View> for KeepsOwner<P> {
+impl<P: PermitTag> Split<View> for KeepsOwner<P> {
     ghost left = { λ _. with_out (P.at ∷ []) (piece (owning P.at Exclusive)) };
 
     ghost right = { left_over (owning P.at Exclusive) };

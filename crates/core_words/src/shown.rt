@@ -12,7 +12,7 @@ ghost use Rattle.core_words.specs.Steps.{after_step};
 ghost use Rattle.core_words.specs.Views.{HasSeen, shown};
 ghost use Rattle.core_words.specs.declared.words.WordKind.TheVariants.{Condvar, Mutex};
 
-use crate::plays::{CondvarPick, PermitPick, SeesShown};
+use crate::plays::{CondvarTag, PermitTag, SeesShown};
 use crate::table::{LotWords, Seat};
 use crate::words::{Word, WordKind};
 use std::marker::Brand;
@@ -21,7 +21,7 @@ impl LotWords {
     ghost use Rattle.core_words.specs.Lots.{IsSeatOf, IsWordOf};
 
     #[inline]
-    fn look_picked<C: CondvarPick, P: PermitPick>(&self, seat: &mut Seat, condvar: Word) -> u64
+    fn look_tagged<C: CondvarTag, P: PermitTag>(&self, seat: &mut Seat, condvar: Word) -> u64
         requires pick { (C.words ≡ self.now.count) × (C.number ≡ condvar.number)
             × (P.family ≡ self.now.table.shared.key.1.family) }
         requires own { IsSeatOf self.now seat.old × IsWordOf self.now condvar
@@ -47,7 +47,7 @@ impl LotWords {
             ≡ after_step Condvar (word_index condvar.number Condvar) Load result seat.old.me.0 }
         ensures shown { ShowsBeside self.now.count condvar.number result }
     {
-        self.look_picked::<Brand, Brand>(seat, condvar)
+        self.look_tagged::<Brand, Brand>(seat, condvar)
     }
 
     /// Names the mutex that a seat has seen shown by a condition variable, by one more than its

@@ -3,7 +3,7 @@ ghost use Rattle.std.specs.Prelude.{◌≡◌, ℕ, ◌<◌, ◌≤◌, [], IfOk
 ghost use Rattle.core_words.specs.Indices.{table_size, word_index, most_words};
 
 use crate::plays::{
-    Adds, Ands, Bits, Exchanges, Loads, Ors, OwnershipRule, PermitPick, SawSet, SeatsAnother,
+    Adds, Ands, Bits, Exchanges, Loads, Ors, OwnershipRule, PermitTag, SawSet, SeatsAnother,
     Stores, Subs, Swaps,
 };
 use crate::views::View;
@@ -85,7 +85,7 @@ impl LotWords {
     // Sets bits by one step, which writes nothing to a word that has them. So a try of a locked
     // lock disturbs nobody.
     #[inline]
-    fn set_bits<B: Bits, P: PermitPick>(&self, seat: &mut Seat, word: Word, bits: u64) -> u64
+    fn set_bits<B: Bits, P: PermitTag>(&self, seat: &mut Seat, word: Word, bits: u64) -> u64
         requires pick { (B.bits ≡ bits) × (P.family ≡ self.now.table.shared.key.1.family) }
         requires own { IsSeatOf self.now seat.old × IsWordOf self.now word }
         requires may { MayStep word.kind (word_index word.number word.kind)
@@ -104,7 +104,7 @@ impl LotWords {
     }
 
     #[inline]
-    fn step_picked<P: PermitPick>(&self, seat: &mut Seat, word: Word, op: Op) -> u64
+    fn step_tagged<P: PermitTag>(&self, seat: &mut Seat, word: Word, op: Op) -> u64
         requires pick { P.family ≡ self.now.table.shared.key.1.family }
         requires own { IsSeatOf self.now seat.old × IsWordOf self.now word }
         requires may { MayStep word.kind (word_index word.number word.kind) op seat.old.me.0.owns }
@@ -144,6 +144,6 @@ impl LotWords {
         ensures coded { CodesWith word.kind
             (word_index word.number word.kind) result seat.old.me.0.owns }
     {
-        self.step_picked::<Brand>(seat, word, op)
+        self.step_tagged::<Brand>(seat, word, op)
     }
 }

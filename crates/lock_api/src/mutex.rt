@@ -179,8 +179,8 @@ impl<R: RawMutex, T> Mutex<R, T> {
 }
 
 impl<R: RawMutexTimed, T> Mutex<R, T> {
-    /// Waits until nobody has the mutex, and takes it. None only where so much time, in nanoseconds
-    /// of the clock, had passed.
+    /// Waits until nobody has the mutex, and takes it. None once so much time, in nanoseconds of the
+    /// clock, has passed.
     ///
     /// A time that ends past all that a `u64` tells is no limit.
     #[inline]
@@ -203,8 +203,8 @@ impl<R: RawMutexTimed, T> Mutex<R, T> {
         Some(self.open(lot, raw))
     }
 
-    /// Waits until nobody has the mutex, and takes it. None only where the clock, in nanoseconds,
-    /// had come to the deadline.
+    /// Waits until nobody has the mutex, and takes it. None once the clock, in nanoseconds, has
+    /// come to the deadline.
     #[inline]
     pub fn try_lock_until<W: Wait, C: Clock>(
         &self,

@@ -45,7 +45,7 @@ impl<'a, R: RawRwLock, T> Held<Reading<'a, R, T>, Seen<'a, T>> {
     }
 
     /// Gives the right to read up. The last reader wakes the writer that waits for it.
-    #[inline]
+    #[inline(always)]
     pub fn unlock<W: Wait>(self, rt: &W, token: &mut R::Token)
         requires { R.is_token_of (R.lot_of (lock_of self)) token.old }
         ensures token { R.is_token_of (R.lot_of (lock_of self.entry)) token.new
@@ -72,7 +72,7 @@ impl<'a, R: RawRwLockUpgrade, T> Held<Upgrading<'a, R, T>, Seen<'a, T>> {
     }
 
     /// Gives the right up, and wakes the threads that this lets in.
-    #[inline]
+    #[inline(always)]
     pub fn unlock<W: Wait>(self, rt: &W, token: &mut R::Token)
         requires { R.is_token_of (R.lot_of (lock_of self)) token.old }
         ensures token { R.is_token_of (R.lot_of (lock_of self.entry)) token.new
@@ -143,8 +143,7 @@ impl<'a, R: RawRwLockUpgrade, T> Held<Upgrading<'a, R, T>, Seen<'a, T>> {
 }
 
 impl<'a, R: RawRwLockUpgradeTimed, T> Held<Upgrading<'a, R, T>, Seen<'a, T>> {
-    /// Upgrades, and gives up once so much time, in nanoseconds of the clock, had passed, and not
-    /// before.
+    /// Upgrades, and gives up once so much time, in nanoseconds of the clock, has passed.
     ///
     /// # Errors
     ///
@@ -179,7 +178,7 @@ impl<'a, R: RawRwLockUpgradeTimed, T> Held<Upgrading<'a, R, T>, Seen<'a, T>> {
     ///
     /// # Errors
     ///
-    /// The guard, where the clock had come to the deadline.
+    /// The guard, where the clock has come to the deadline.
     #[inline]
     pub fn try_upgrade_until<W: Wait, C: Clock>(
         self,
@@ -240,7 +239,7 @@ impl<'a, R: RawRwLock, T> Held<Writing<'a, R, T>, Open<'a, T>> {
     }
 
     /// Gives the lock up, and wakes the threads that this lets in.
-    #[inline]
+    #[inline(always)]
     pub fn unlock<W: Wait>(self, rt: &W, token: &mut R::Token)
         requires { R.is_token_of (R.lot_of (lock_of self)) token.old }
         ensures token { R.is_token_of (R.lot_of (lock_of self.entry)) token.new

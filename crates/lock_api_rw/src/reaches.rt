@@ -13,7 +13,7 @@ impl<R: RawRwLock, T> RwLock<R, T> {
     pub fn get_mut(&mut self) -> &mut T
         ensures* same { sem 𝓛
             (Lends (the_row R.row T.row R.Lot.row R.Token.row R.SharedGuard.row
-            R.ExclusiveGuard.row R.Rest.row (record {
+            R.ExclusiveGuard.row R.SlowPart.row (record {
               limit_of = R.limit_of;
               seats_of = R.seats_of;
               drew = R.drew;

@@ -17,8 +17,8 @@ use std::sync::Wait;
 use std::time::Duration;
 
 impl<R: RawRwLockTimed, T> RwLock<R, T> {
-    /// Waits until no writer keeps readers out, and comes in to read. None only where so much time,
-    /// in nanoseconds of the clock, had passed.
+    /// Waits until no writer keeps readers out, and comes in to read. None once so much time, in
+    /// nanoseconds of the clock, has passed.
     ///
     /// A time that ends past all that a `u64` tells is no limit.
     ///
@@ -51,8 +51,8 @@ impl<R: RawRwLockTimed, T> RwLock<R, T> {
         }
     }
 
-    /// Reads, or gives up at a deadline, in nanoseconds of the clock. None only where the clock had
-    /// come to it.
+    /// Reads, or gives up at a deadline, in nanoseconds of the clock. None once the clock has come to
+    /// it.
     ///
     /// # Errors
     ///
@@ -83,8 +83,8 @@ impl<R: RawRwLockTimed, T> RwLock<R, T> {
         }
     }
 
-    /// Waits until nobody has the lock, and takes it. None only where so much time, in nanoseconds
-    /// of the clock, had passed.
+    /// Waits until nobody has the lock, and takes it. None once so much time, in nanoseconds of the
+    /// clock, has passed.
     ///
     /// A time that ends past all that a `u64` tells is no limit.
     #[inline]
@@ -109,8 +109,8 @@ impl<R: RawRwLockTimed, T> RwLock<R, T> {
         Some(self.open_exclusive(raw))
     }
 
-    /// Writes, or gives up at a deadline, in nanoseconds of the clock. None only where the clock had
-    /// come to it.
+    /// Writes, or gives up at a deadline, in nanoseconds of the clock. None once the clock has come to
+    /// it.
     #[inline]
     pub fn try_write_until<W: Wait, C: Clock>(
         &self,
@@ -136,7 +136,7 @@ impl<R: RawRwLockTimed, T> RwLock<R, T> {
 
 impl<R: RawRwLockUpgradeTimed, T> RwLock<R, T> {
     /// Waits until nobody has the lock alone or with the upgradable right, and comes in to read
-    /// with that right. None only where so much time, in nanoseconds of the clock, had passed.
+    /// with that right. None once so much time, in nanoseconds of the clock, has passed.
     ///
     /// A time that ends past all that a `u64` tells is no limit.
     ///
@@ -174,8 +174,8 @@ impl<R: RawRwLockUpgradeTimed, T> RwLock<R, T> {
         }
     }
 
-    /// Reads upgradably, or gives up at a deadline, in nanoseconds of the clock. None only where the
-    /// clock had come to it.
+    /// Reads upgradably, or gives up at a deadline, in nanoseconds of the clock. None once the
+    /// clock has come to it.
     ///
     /// # Errors
     ///

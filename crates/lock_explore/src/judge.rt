@@ -8,7 +8,7 @@ use std::alloc::{AllocError, Global};
 
 /// What a lock of the simulator came to.
 pub(crate) struct LockEnd {
-    /// Its word in the lot.
+    /// The word of the lock in the lot.
     pub(crate) word: usize,
     /// The threads that have a right to it, each once.
     pub(crate) owners: Vec<usize>,

@@ -35,7 +35,7 @@ abbrev pub Called : {F U : Type 0} → Shared F (MutBor Token × Unit {0}) (U ×
 Called {U = U} g f old new = (entered : MutBor Token) × (left : MutBor Token) × (answer : U)
     × (entered.now ≡ old) × (left.now ≡ new) × g.post f (entered, tt) (answer, (left, tt))
 
--- this many calls, each with the token as the one before left it
+-- a number of calls, each with the token as the one before left it
 abbrev pub CalledTimes : {F U : Type 0}
     → Shared F (MutBor Token × Unit {0}) (U × (MutBor Token × Unit {0}))
     → F → ℕ → Token → Token → Type 0

@@ -68,7 +68,7 @@ pub trait RawMutex {
         → number_of new ≡ number_of old };
     // A guard is of this mutex.
     ghost is_guard_of: { Self → Self.Guard → Type 0 };
-    // That a guard is of a mutex has one proof at most, so a struct may keep it as a ghost field.
+    // The fact that a guard is of a mutex has one proof at most: a struct may keep it as a ghost field.
     ghost guard_once: { (mutex : Self) (guard : Self.Guard) → IsProp (is_guard_of mutex guard) };
     // Which permit opens the value that a mutex guards.
     ghost permit_of: { Self → PermitId };
@@ -237,8 +237,8 @@ pub trait RawMutexTimed: RawMutex {
     // took nobody.
     ghost gave_up: { Self → Self.Token → Type 0 };
 
-    /// Waits until nobody has the mutex, and takes it. None only where so much time, in nanoseconds
-    /// of the clock, had passed.
+    /// Waits until nobody has the mutex, and takes it. None once so much time, in nanoseconds of the
+    /// clock, has passed.
     ///
     /// A time that ends past all that a `u64` tells is no limit.
     fn try_lock_for<R: Wait, C: Clock>(
@@ -256,7 +256,7 @@ pub trait RawMutexTimed: RawMutex {
         ensures left { IfNone result (gave_up self.now token.new) }
         ensures late { IfNone result (HasElapsed (C.tells clock.now) (as_nanos timeout)) };
 
-    /// Waits until nobody has the mutex, and takes it. None only where the clock had come to the
+    /// Waits until nobody has the mutex, and takes it. None once the clock has come to the
     /// deadline.
     fn try_lock_until<R: Wait, C: Clock>(
         &self,

@@ -38,7 +38,7 @@ pub trait RawRwLock: RawRwLockHalves {
     ghost looked: { Self → Bool → Self.Token → Self.Token → Type 0 };
     // What a look for an exclusive owner saw.
     ghost looked_for_writer: { Self → Bool → Self.Token → Self.Token → Type 0 };
-    // This call gave up: it left no section after a last step that saw nobody to wake, or one in
+    // A call that gave up: it left no section after a last step that saw nobody to wake, or one in
     // which it took those that it had kept out, or that of the main queue, where it took nobody.
     ghost gave_up: { Self → RwLockCall → Self.Token → Type 0 };
 
@@ -190,8 +190,8 @@ pub trait RawRwLockDowngrade: RawRwLock {
 
 /// A lock whose waiters may give up.
 pub trait RawRwLockTimed: RawRwLock {
-    /// Waits until no writer keeps readers out, and comes in to read. None only where so much time,
-    /// in nanoseconds of the clock, had passed.
+    /// Waits until no writer keeps readers out, and comes in to read. None once so much time, in
+    /// nanoseconds of the clock, has passed.
     ///
     /// A time that ends past all that a `u64` tells is no limit.
     ///
@@ -219,8 +219,8 @@ pub trait RawRwLockTimed: RawRwLock {
         ensures late { IfOk result
             (λ entered. IfNone entered (HasElapsed (C.tells clock.now) (as_nanos timeout))) };
 
-    /// Shares the lock, or gives up at a deadline, in nanoseconds of the clock. None only where the
-    /// clock had come to it.
+    /// Shares the lock, or gives up at a deadline, in nanoseconds of the clock. None once the
+    /// clock has come to it.
     ///
     /// # Errors
     ///
@@ -246,8 +246,8 @@ pub trait RawRwLockTimed: RawRwLock {
         ensures late { IfOk result
             (λ entered. IfNone entered (HasPassed (C.tells clock.now) deadline)) };
 
-    /// Waits until nobody has the lock, and takes it. None only where so much time, in nanoseconds
-    /// of the clock, had passed.
+    /// Waits until nobody has the lock, and takes it. None once so much time, in nanoseconds of the
+    /// clock, has passed.
     ///
     /// A time that ends past all that a `u64` tells is no limit.
     fn try_lock_exclusive_for<R: Wait, C: Clock>(
@@ -267,8 +267,8 @@ pub trait RawRwLockTimed: RawRwLock {
             (Self.RawRwLock.gave_up self.now (Enter access.Exclusive Timed) token.new) }
         ensures late { IfNone result (HasElapsed (C.tells clock.now) (as_nanos timeout)) };
 
-    /// Locks exclusively, or gives up at a deadline, in nanoseconds of the clock. None only where the
-    /// clock had come to it.
+    /// Locks exclusively, or gives up at a deadline, in nanoseconds of the clock. None once the
+    /// clock has come to it.
     fn try_lock_exclusive_until<R: Wait, C: Clock>(
         &self,
         rt: &R,

@@ -28,7 +28,7 @@ pub trait RawRwLockHalves {
     /// The right of a thread that has the lock alone. It borrows nothing.
     type ExclusiveGuard;
     /// The rest of a call, which its first half leaves to its second one.
-    type Rest;
+    type SlowPart;
 
     // The lot of a lock.
     ghost lot_of: { Self → Self.Lot };
@@ -63,7 +63,7 @@ pub trait RawRwLockHalves {
     // that somebody waits.
     ghost woke_waiters: { Self → RwLockCall → Self.Token → Self.Token → Type 0 };
     // Between them it took the first steps of this call, which leave it this to do.
-    ghost begun: { Self → RwLockCall → Self.Rest → Self.Token → Self.Token → Type 0 };
+    ghost begun: { Self → RwLockCall → Self.SlowPart → Self.Token → Self.Token → Type 0 };
     // Between them its last step saw that nobody keeps this right out, and that as many share the
     // lock as may.
     ghost saw_full: { Self → Access → Self.Token → Self.Token → Type 0 };
@@ -76,7 +76,7 @@ pub trait RawRwLockHalves {
     fn lock_shared_fast(
         &self,
         token: &mut Self::Token,
-    ) -> Result<Result<Self::SharedGuard, Fault>, Self::Rest>
+    ) -> Result<Result<Self::SharedGuard, Fault>, Self::SlowPart>
         requires { is_token_of (lot_of self.now) token.old }
         ensures token { is_token_of (lot_of self.now) token.new }
         ensures over { IfOk result
@@ -97,7 +97,7 @@ pub trait RawRwLockHalves {
         &self,
         rt: &R,
         token: &mut Self::Token,
-        rest: Self::Rest,
+        rest: Self::SlowPart,
     ) -> Result<Self::SharedGuard, Fault>
         requires token { is_token_of (lot_of self.now) token.old }
         requires begun { (before : Self.Token)
@@ -119,7 +119,7 @@ pub trait RawRwLockHalves {
     fn lock_exclusive_fast(
         &self,
         token: &mut Self::Token,
-    ) -> Result<Self::ExclusiveGuard, Self::Rest>
+    ) -> Result<Self::ExclusiveGuard, Self::SlowPart>
         requires { is_token_of (lot_of self.now) token.old }
         ensures token { is_token_of (lot_of self.now) token.new }
         ensures over { IfOk result
@@ -134,7 +134,7 @@ pub trait RawRwLockHalves {
         &self,
         rt: &R,
         token: &mut Self::Token,
-        rest: Self::Rest,
+        rest: Self::SlowPart,
     ) -> Self::ExclusiveGuard
         requires token { is_token_of (lot_of self.now) token.old }
         requires begun { (before : Self.Token)
@@ -152,7 +152,7 @@ pub trait RawRwLockHalves {
         &self,
         token: &mut Self::Token,
         guard: Self::SharedGuard,
-    ) -> Option<Self::Rest>
+    ) -> Option<Self::SlowPart>
         requires token { is_token_of (lot_of self.now) token.old }
         requires guard { is_shared_of self.now guard }
         ensures token { is_token_of (lot_of self.now) token.new }
@@ -169,7 +169,7 @@ pub trait RawRwLockHalves {
         &self,
         token: &mut Self::Token,
         guard: Self::ExclusiveGuard,
-    ) -> Option<Self::Rest>
+    ) -> Option<Self::SlowPart>
         requires token { is_token_of (lot_of self.now) token.old }
         requires guard { is_exclusive_of self.now guard }
         ensures token { is_token_of (lot_of self.now) token.new }
@@ -186,7 +186,7 @@ pub trait RawRwLockHalves {
         rt: &R,
         token: &mut Self::Token,
         access: Access,
-        rest: Self::Rest,
+        rest: Self::SlowPart,
     )
         requires token { is_token_of (lot_of self.now) token.old }
         requires begun { (before : Self.Token)

@@ -94,7 +94,7 @@ pub trait RawRwLockUpgrade: RawRwLock {
     fn lock_upgradable_fast(
         &self,
         token: &mut Self::Token,
-    ) -> Result<Result<Self::UpgradableGuard, Fault>, Self::Rest>
+    ) -> Result<Result<Self::UpgradableGuard, Fault>, Self::SlowPart>
         requires { Self.RawRwLockHalves.is_token_of (Self.RawRwLockHalves.lot_of self.now) token.old }
         ensures token { Self.RawRwLockHalves.is_token_of (Self.RawRwLockHalves.lot_of self.now) token.new }
         ensures over { IfOk result
@@ -118,7 +118,7 @@ pub trait RawRwLockUpgrade: RawRwLock {
         &self,
         rt: &R,
         token: &mut Self::Token,
-        rest: Self::Rest,
+        rest: Self::SlowPart,
     ) -> Result<Self::UpgradableGuard, Fault>
         requires token { Self.RawRwLockHalves.is_token_of (Self.RawRwLockHalves.lot_of self.now) token.old }
         requires begun { (before : Self.Token)
@@ -139,7 +139,7 @@ pub trait RawRwLockUpgrade: RawRwLock {
         &self,
         token: &mut Self::Token,
         guard: Self::UpgradableGuard,
-    ) -> Option<Self::Rest>
+    ) -> Option<Self::SlowPart>
         requires token { Self.RawRwLockHalves.is_token_of (Self.RawRwLockHalves.lot_of self.now) token.old }
         requires guard { is_upgradable_of self.now guard }
         ensures token { Self.RawRwLockHalves.is_token_of (Self.RawRwLockHalves.lot_of self.now) token.new }
@@ -269,8 +269,8 @@ pub trait RawRwLockUpgradeDowngrade: RawRwLockUpgrade {
 
 /// A lock with the upgradable right, whose waiters may give up.
 pub trait RawRwLockUpgradeTimed: RawRwLockUpgrade {
-    /// Waits until nobody has the lock alone or with this right, and comes in. None only where so
-    /// much time, in nanoseconds of the clock, had passed.
+    /// Waits until nobody has the lock alone or with this right, and comes in. None once so
+    /// much time, in nanoseconds of the clock, has passed.
     ///
     /// A time that ends past all that a `u64` tells is no limit.
     ///
@@ -298,8 +298,8 @@ pub trait RawRwLockUpgradeTimed: RawRwLockUpgrade {
         ensures late { IfOk result
             (λ entered. IfNone entered (HasElapsed (C.tells clock.now) (as_nanos timeout))) };
 
-    /// Locks upgradably, or gives up at a deadline, in nanoseconds of the clock. None only where the
-    /// clock had come to it.
+    /// Locks upgradably, or gives up at a deadline, in nanoseconds of the clock. None once the
+    /// clock has come to it.
     ///
     /// # Errors
     ///
@@ -325,8 +325,7 @@ pub trait RawRwLockUpgradeTimed: RawRwLockUpgrade {
         ensures late { IfOk result
             (λ entered. IfNone entered (HasPassed (C.tells clock.now) deadline)) };
 
-    /// Upgrades, and gives up once so much time, in nanoseconds of the clock, had passed, and not
-    /// before.
+    /// Upgrades, and gives up once so much time, in nanoseconds of the clock, has passed.
     ///
     /// # Errors
     ///

@@ -13,7 +13,7 @@ abbrev pub found_after : {A B E F : Type 0} → Result A E → (A → Result B F
 found_after (Ok x) finds = second_found (finds x)
 found_after (Err e) finds = Err (First e)
 
--- this is written to what the second finds, and that to what the first found
+-- one value is written to what the second finds, and another to what the first found
 abbrev pub written_after : {A B E X : Type 0} → Result A E → (A → B → A) → (A → X) → X → B → X
 written_after (Ok x) inner outer value next = outer (inner x next)
 written_after (Err e) inner outer value next = value

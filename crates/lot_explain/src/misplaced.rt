@@ -11,9 +11,9 @@ use std::fmt;
 pub enum StageCause {
     /// The first line says how many threads there are.
     ThreadsFirst,
-    /// They are said once.
+    /// Threads are declared once.
     ThreadsAgain,
-    /// They are 1 to 1,024.
+    /// The number of threads is 1 to 1,024.
     ThreadCount,
     /// A lock is declared before the first turn, `show` or `drain`.
     LockLate,

@@ -182,7 +182,7 @@ pub use Rattle.steps_condvar.specs.CondvarDeeds.{IsListed, MayReply, MayHearNoti
 pub use Rattle.steps_condvar.specs.CondvarDeeds.{after_condvar_deeds, condvar_deeds, notify_deeds}
 pub use Rattle.steps_condvar.specs.CondvarDeeds.{relocked_deeds, wait_deeds, word_showing}
 pub use Rattle.steps_condvar.specs.CondvarMoves.{MovesWaiters, row_at_mutex, row_at_condvar, there, there_then}
-pub use Rattle.steps_condvar.specs.CondvarMutex.{FollowsAtMutex, MayGetReplyAtMutex, beside_deeds, brings}
+pub use Rattle.steps_condvar.specs.CondvarMutex.{FollowsAtMutex, MayGetReplyAtMutex, beside_deeds, will_bring}
 pub use Rattle.steps_condvar.specs.CondvarMutex.{role_next}
 pub use Rattle.steps_condvar.specs.CondvarProfiles.{carries_at_mutex, condvar_place_purpose, condvar_profile}
 pub use Rattle.steps_condvar.specs.CondvarProfiles.{condvar_recalls, condvar_released, condvar_row, hand_of}

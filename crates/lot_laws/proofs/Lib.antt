@@ -1,8 +1,7 @@
-mod Imports
+pub mod Imports
 pub mod machine
 pub mod semaphore
 pub mod calls
-pub mod alone
 pub mod hands
 pub mod mutex
 pub mod condvar

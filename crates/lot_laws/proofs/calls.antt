@@ -18,3 +18,4 @@ pub mod Tries
 pub mod TriesEnd
 pub mod Spins
 pub mod Marked
+pub mod Purposes

@@ -13,3 +13,4 @@ pub mod Sleepers
 pub mod StancesStay
 pub mod EntersOwn
 pub mod ReadsOwn
+pub mod Stuck

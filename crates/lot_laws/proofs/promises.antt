@@ -14,3 +14,4 @@ pub mod RowLaws
 pub mod Headline
 pub mod LeavesOthers
 pub mod Overtaken
+pub mod WorldRuns

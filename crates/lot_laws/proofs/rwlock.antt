@@ -9,3 +9,4 @@ pub mod RwLockStepsAreEvents
 pub mod Late
 pub mod FairHands
 pub mod GoesOn
+pub mod Words

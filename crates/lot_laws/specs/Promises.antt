@@ -9,7 +9,7 @@ use Rattle.core_base.specs.declared.wants.Want.{Want}
 use Rattle.core_base.specs.declared.ops.Op.TheVariants.{Exchange}
 use Rattle.steps_base.specs.declared.acts.Act.{Act}
 use Rattle.steps_base.specs.declared.acts.Act.TheVariants.{Enter, Leave, Sleep, Word}
-use Rattle.steps_base.specs.declared.acts.Wakes as wakes
+use Rattle.steps_base.specs.declared.acts.Wakes.TheVariants as wakes
 use Rattle.core_base.specs.declared.notes.Note.TheVariants.{HandOff}
 use Rattle.lot_steps.specs.Steps.{act_of, taker, retries_on}
 use Rattle.lot_machine.specs.Machine.{State, place_at, word_at, filled_at, section_at}
@@ -53,7 +53,7 @@ IsCoded w l =
 -- parked bit; or it has ended its run of a `Once`, has cleared the bit beside waiters, and is about
 -- to take them
 abbrev pub IsAboutToMark : State → ℕ → ℕ → Type 0
-IsAboutToMark w t l = (role_on (place_at w t) l).sets ≡ true
+IsAboutToMark w t l = (role_on (place_at w t) l).bit_pending ≡ true
 
 -- A thread that is about to set a parked bit: it is inside the section, or, at a `Once`, owes those waiters
 -- their wake.
@@ -96,7 +96,7 @@ pub record IsLookedAfterIn (w : State) (l : ℕ) (m : Line) : Type 0 where
   pub stands_nowhere : (k : ℕ) → (standing debtor (lock_state w k) ≡ 0)
       ⊎ (WaitHasReleased (call_at w debtor).purpose (call_at w debtor).released l m × Owes w debtor l m)
 
--- this many different threads look after the line
+-- a number of different threads look after the line
 pub record AreLookedAfterIn (w : State) (l number : ℕ) : Type 0 where
   pub debtor : ℕ → ℕ
   pub apart : (i j : ℕ) → i < number → j < number → debtor i ≡ debtor j → i ≡ j
@@ -141,7 +141,7 @@ pub record IsHandedOverIn (w : State) (t : ℕ) : Type 0 where
   pub owner : HasOrPends (sort_at w lock) (lock_state w lock) t want
   pub inside : section_at w (2 * lock) ≡ Some by
   pub in_hand : taker (place_at w t) ≡ Some by
-  pub wakes : act_of (place_at w by) ≡ Leave (One (2 * lock)) (wakes.TheVariants.All HandOff)
+  pub wakes : act_of (place_at w by) ≡ Leave (One (2 * lock)) (wakes.All HandOff)
 
 -- a condition variable shows a mutex exactly while somebody waits for it, each in a call that waits
 -- with that mutex

@@ -25,7 +25,7 @@ use Rattle.spec_locks.specs.Onces.{InProgress}
 use Rattle.spec_locks.specs.Condvars.{CondvarSite, Inside, IsCondvar, NothingToDo, CondvarPhase}
 use Rattle.lot_steps.specs.Steps.{profile_at}
 use Rattle.spec_locks.specs.declared.kinds.Kind.{Kind}
-use Rattle.spec_locks.specs.declared.kinds.Kind as kind
+use Rattle.spec_locks.specs.declared.kinds.Kind.TheVariants as kind
 use Rattle.spec_locks.specs.Kinds.{is_plain_mutex}
 use Rattle.steps_rwlock.specs.declared.places.Admission.{Admission}
 use Rattle.steps_rwlock.specs.RwLockDeeds.{Admits}
@@ -117,16 +117,16 @@ AllAreWaiting at queue = (l : ℕ) (m : Line) → AreWaiting at l m (queue (key_
 -- the threads that a thread has in hand
 pub record HandsBy (one : ℕ → Type 0) (at : ℕ → ℕ → Location) : Type 0 where
   -- a thread with somebody in hand, by its place, has one
-  pub carried : (t l : ℕ) (b : Bool) → (at t l).carries ≡ Some b
+  pub carried : (t l : ℕ) (b : Bool) → (at t l).has_taken ≡ Some b
       → (u : ℕ) × ((at u l).hand ≡ hand t b)
   -- A lock that takes one at a time has no second thread in hand.
   pub alone : (t l u v : ℕ) (b c : Bool) → one l → (at u l).hand ≡ hand t b
       → (at v l).hand ≡ hand t c → v ≡ u
   -- a thread in the hand of another is so by that one's place
-  pub taken : (t u l : ℕ) (b : Bool) → (at u l).hand ≡ hand t b → (at t l).carries ≡ Some b
+  pub taken : (t u l : ℕ) (b : Bool) → (at u l).hand ≡ hand t b → (at t l).has_taken ≡ Some b
 
 abbrev pub carried_at : Place → ℕ → Option Bool
-carried_at p l = (location_at p l).carries
+carried_at p l = (location_at p l).has_taken
 
 abbrev pub hand_at : Place → ℕ → Option Hand
 hand_at p l = (location_at p l).hand
@@ -139,13 +139,13 @@ abbrev pub TakesOne : State → ℕ → Type 0
 TakesOne w l = (rules_in w l).sort ≡ OneOwner
 
 abbrev pub is_mutex : Kind → Bool
-is_mutex kind.TheVariants.Mutex = true
-is_mutex kind.TheVariants.Fair = true
-is_mutex (kind.TheVariants.RwLock limit) = false
-is_mutex (kind.TheVariants.Recursive limit) = false
-is_mutex kind.TheVariants.Condvar = false
-is_mutex kind.TheVariants.Once = false
-is_mutex (kind.TheVariants.Semaphore permits) = false
+is_mutex kind.Mutex = true
+is_mutex kind.Fair = true
+is_mutex (kind.RwLock limit) = false
+is_mutex (kind.Recursive limit) = false
+is_mutex kind.Condvar = false
+is_mutex kind.Once = false
+is_mutex (kind.Semaphore permits) = false
 
 -- a call of a condition variable has come to its place, and the mutex that it names is a plain one
 pub record FitsCondvar (w : State) (l : ℕ) (at : CondvarPlace) : Type 0 where
@@ -235,7 +235,7 @@ RunsInClosures w = (t l : ℕ) → (lock_state w l).phase ≡ InProgress t → R
 
 -- the word of a `Once` that is done tells of no waiter
 abbrev pub AreUnmarked : State → Type 0
-AreUnmarked w = (l : ℕ) → kind_at w l ≡ kind.TheVariants.Once → word_at w l ≢ 9
+AreUnmarked w = (l : ℕ) → kind_at w l ≡ kind.Once → word_at w l ≢ 9
 
 -- each call that releases a fair mutex does so fairly, and while somebody waits for it, it is owned
 pub record IsFairMutex (w : State) (l : ℕ) : Type 0 where
@@ -243,7 +243,7 @@ pub record IsFairMutex (w : State) (l : ℕ) : Type 0 where
   pub owned : (lock_state w l).queue ≢ [] → (lock_state w l).exclusive ≢ None
 
 abbrev pub AreFairMutexes : State → Type 0
-AreFairMutexes w = (l : ℕ) → kind_at w l ≡ kind.TheVariants.Fair → IsFairMutex w l
+AreFairMutexes w = (l : ℕ) → kind_at w l ≡ kind.Fair → IsFairMutex w l
 
 pub record IsSettled (w : State) : Type 0 where
   pub runs : RunsInClosures w

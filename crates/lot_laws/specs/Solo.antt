@@ -7,11 +7,11 @@ use Rattle.core_base.specs.declared.wants.Want.TheVariants.{Exclusive, Shared, C
 use Rattle.steps_base.specs.declared.acts.Act.{Act}
 use Rattle.steps_base.specs.declared.acts.Act.TheVariants.{Enter, Sleep}
 use Rattle.spec_locks.specs.declared.outcomes.Answer.{Answer}
-use Rattle.spec_locks.specs.declared.outcomes.Answer as answer
+use Rattle.spec_locks.specs.declared.outcomes.Answer.TheVariants as answer
 use Rattle.spec_locks.specs.declared.outcomes.Outcome.{Outcome}
-use Rattle.spec_locks.specs.declared.outcomes.Outcome as outcome
+use Rattle.spec_locks.specs.declared.outcomes.Outcome.TheVariants as outcome
 use Rattle.spec_locks.specs.declared.outcomes.OnceState.{OnceState}
-use Rattle.spec_locks.specs.declared.outcomes.OnceState as once_state
+use Rattle.spec_locks.specs.declared.outcomes.OnceState.TheVariants as once_state
 use Rattle.steps_condvar.specs.declared.places.CondvarPlace.TheVariants.{Look}
 use Rattle.lot_steps.specs.declared.places.Place.{Place}
 use Rattle.lot_steps.specs.declared.places.Place.TheVariants.{Idle, Condvar}
@@ -64,9 +64,9 @@ IsUnobstructed w t =
 
 -- the call has ended, sleeps or is in its closure
 abbrev pub EndsOrSleeps : Outcome → Type 0
-EndsOrSleeps (outcome.TheVariants.End a) = Unit {0}
-EndsOrSleeps outcome.TheVariants.Sleep = Unit {0}
-EndsOrSleeps (outcome.TheVariants.Closure state) = Unit {0}
+EndsOrSleeps (outcome.End a) = Unit {0}
+EndsOrSleeps outcome.Sleep = Unit {0}
+EndsOrSleeps (outcome.Closure state) = Unit {0}
 EndsOrSleeps o = ⊥
 
 -- the act enters the section of this key
@@ -106,8 +106,8 @@ OnlyTries purpose = ⊥
 
 -- the answer of a call that has entered
 abbrev pub entered_answer : Patience → Answer
-entered_answer Patient = answer.TheVariants.Ok
-entered_answer how = answer.TheVariants.Yes
+entered_answer Patient = answer.Ok
+entered_answer how = answer.Yes
 
 -- a call may have its right at once: nobody shares where it is to own alone; and a writer's try at a lock
 -- that is shared finds a word that is clear, since a parked bit may stand where a waiter was and is gone
@@ -120,17 +120,17 @@ MayEnterAtOnce clear r s x how = MayEnter r s x
 
 -- the thread is the last of the queue, asleep
 abbrev pub SleepsLast : LockState → ℕ → Want → Outcome → LockState → Type 0
-SleepsLast s t x o s2 = (o ≡ outcome.TheVariants.Sleep)
+SleepsLast s t x o s2 = (o ≡ outcome.Sleep)
     × (s2.queue ≡ s.queue ++ (record { thread = t; want = x }) ∷ [])
 
 -- beside readers a writer sleeps aside of the queue, where it waits for them, and a try ends
 abbrev pub WaitsForReaders : Patience → ℕ → Outcome → LockState → Type 0
-WaitsForReaders Try t o s2 = o ≡ outcome.TheVariants.End answer.TheVariants.No
-WaitsForReaders how t o s2 = (o ≡ outcome.TheVariants.Sleep) × (s2.aside ≡ Some t)
+WaitsForReaders Try t o s2 = o ≡ outcome.End answer.No
+WaitsForReaders how t o s2 = (o ≡ outcome.Sleep) × (s2.aside ≡ Some t)
 
 -- where its way is barred a try ends, and any other call waits
 abbrev pub WaitsAlone : Patience → LockState → ℕ → Want → Outcome → LockState → Type 0
-WaitsAlone Try s t x o s2 = o ≡ outcome.TheVariants.End answer.TheVariants.No
+WaitsAlone Try s t x o s2 = o ≡ outcome.End answer.No
 WaitsAlone how s t x o s2 = SleepsLast s t x o s2
 
 -- the end of a call that waits for a right; clear says that no bit of the word is set
@@ -138,23 +138,23 @@ pub record EntersAlone (clear : Type 0) (w : LocksState) (t l : ℕ) (x : Want) 
     (o : Outcome)
     (v : LocksState) : Type 0 where
   pub owns : MayEnterAtOnce clear (rules_at w l) (w.locks l) x how
-      → (o ≡ outcome.TheVariants.End (entered_answer how)) × Owns (v.locks l) t x
+      → (o ≡ outcome.End (entered_answer how)) × Owns (v.locks l) t x
   pub pends : x ≡ Exclusive → MayEnter (rules_at w l) (w.locks l) x → 1 ≤ readers (w.locks l)
       → WaitsForReaders how t o (v.locks l)
   -- a writer's try at a lock that is shared fails wherever the word isn't clear
   pub refused : has_readers (rules_at w l).sort ≡ true → x ≡ Exclusive → how ≡ Try → (clear → ⊥)
-      → o ≡ outcome.TheVariants.End answer.TheVariants.No
-  pub full : IsFull w l x → o ≡ outcome.TheVariants.End answer.TheVariants.ReadersFull
+      → o ≡ outcome.End answer.No
+  pub full : IsFull w l x → o ≡ outcome.End answer.ReadersFull
   pub barred : IsBlocked (rules_at w l) (w.locks l) x → WaitsAlone how (w.locks l) t x o (v.locks l)
 
 -- a right turned into a lesser one
 abbrev pub DowngradesAlone : ℕ → Want → Outcome → LockState → Type 0
-DowngradesAlone t y o s2 = (o ≡ outcome.TheVariants.End answer.TheVariants.Ok) × Owns s2 t y
+DowngradesAlone t y o s2 = (o ≡ outcome.End answer.Ok) × Owns s2 t y
 
 -- the end of a call that turns its right into another
 abbrev pub ConvertsAlone : LockState → ℕ → Want → Patience → Outcome → LockState → Type 0
 ConvertsAlone s t Exclusive how o s2 =
-    (readers s ≡ 0 → (o ≡ outcome.TheVariants.End (entered_answer how)) × Owns s2 t Exclusive)
+    (readers s ≡ 0 → (o ≡ outcome.End (entered_answer how)) × Owns s2 t Exclusive)
     × (1 ≤ readers s → WaitsForReaders how t o s2)
 ConvertsAlone s t y how o s2 = DowngradesAlone t y o s2
 
@@ -165,18 +165,18 @@ successor fair q = if fair then first_thread q else None
 -- a release ends without its right, and a thread that shares has one right less
 abbrev pub ReleasesAlone : LocksState → ℕ → ℕ → Want → Bool → Outcome → LocksState → Type 0
 ReleasesAlone w t l Exclusive fair o v =
-    (o ≡ outcome.TheVariants.End answer.TheVariants.Ok) × (Owns (v.locks l) t Exclusive → ⊥)
+    (o ≡ outcome.End answer.Ok) × (Owns (v.locks l) t Exclusive → ⊥)
     × ((rules_at w l).sort ≡ Mutex → (v.locks l).exclusive ≡ successor fair (w.locks l).queue)
 ReleasesAlone w t l x fair o v =
-    (o ≡ outcome.TheVariants.End answer.TheVariants.Ok)
+    (o ≡ outcome.End answer.Ok)
     × (with_right x (rights_in v t l) ≡ rights_in w t l)
 
 -- a bump of a mutex hands it to the first waiter and then is as a call that enters, asleep as the
 -- last of the queue; where nobody waits it ends with the mutex
 abbrev pub BumpsAlone : ℕ → ℕ → List Queued → Outcome → LockState → Type 0
-BumpsAlone t l [] o s = (o ≡ outcome.TheVariants.End answer.TheVariants.Ok) × (s.exclusive ≡ Some t)
+BumpsAlone t l [] o s = (o ≡ outcome.End answer.Ok) × (s.exclusive ≡ Some t)
 BumpsAlone t l (x ∷ q) o s =
-    (o ≡ outcome.TheVariants.Sleep) × (s.exclusive ≡ Some x.thread)
+    (o ≡ outcome.Sleep) × (s.exclusive ≡ Some x.thread)
     × (s.queue ≡ q ++ (record { thread = t; want = Exclusive }) ∷ [])
 
 -- to which a bump of a lock that is shared gives way: a thread that shares it, to a pending writer, on a
@@ -195,7 +195,7 @@ NeedsNoWay unparked r s x = unparked
 pub record ComesBack (later : ℕ → LocksState) (w : LocksState) (t l : ℕ) (x : Want) (o : Outcome)
     (v : LocksState) : Type 0 where
   pub steps : ℕ
-  pub run : IsRun w (replicate steps (go_of t)) (replicate steps outcome.TheVariants.Step)
+  pub run : IsRun w (replicate steps (go_of t)) (replicate steps outcome.Step)
       (later steps)
   pub given_up : with_right x (rights_in (later steps) t l) ≡ rights_in w t l
   pub enters : EntersAlone ⊥ (later steps) t l x Patient o v
@@ -205,41 +205,41 @@ pub record BumpsShared (unparked : Type 0) (later : ℕ → LocksState) (w : Loc
     (x : Want) (o : Outcome) (v : LocksState) : Type 0 where
   pub gives_way : BumpGivesWay (rules_at w l) (w.locks l) x → ComesBack later w t l x o v
   pub stays : NeedsNoWay unparked (rules_at w l) (w.locks l) x
-      → (o ≡ outcome.TheVariants.End answer.TheVariants.Ok) × Owns (v.locks l) t x
+      → (o ≡ outcome.End answer.Ok) × Owns (v.locks l) t x
 
 -- the closure of the call begins, told what the run found
 abbrev pub RunsAlone : OnceState → ℕ → Outcome → LockState → Type 0
-RunsAlone found t o s2 = (o ≡ outcome.TheVariants.Closure found) × (s2.phase ≡ InProgress t)
+RunsAlone found t o s2 = (o ≡ outcome.Closure found) × (s2.phase ≡ InProgress t)
 
 -- the end of a call that runs a closure, by how far the `Once` has come
 abbrev pub CallsOnceAlone : Phase → LockState → ℕ → Bool → Outcome → LockState → Type 0
-CallsOnceAlone New s t forced o s2 = RunsAlone once_state.TheVariants.New t o s2
-CallsOnceAlone Poisoned s t true o s2 = RunsAlone once_state.TheVariants.Poisoned t o s2
-CallsOnceAlone Poisoned s t false o s2 = o ≡ outcome.TheVariants.End answer.TheVariants.Poisoned
+CallsOnceAlone New s t forced o s2 = RunsAlone once_state.New t o s2
+CallsOnceAlone Poisoned s t true o s2 = RunsAlone once_state.Poisoned t o s2
+CallsOnceAlone Poisoned s t false o s2 = o ≡ outcome.End answer.Poisoned
 CallsOnceAlone (InProgress runner) s t forced o s2 = SleepsLast s t CallOnce o s2
-CallsOnceAlone Done s t forced o s2 = o ≡ outcome.TheVariants.End answer.TheVariants.Ok
+CallsOnceAlone Done s t forced o s2 = o ≡ outcome.End answer.Ok
 
 -- the end of a call that waits for another's run, up to a deadline or without one
 abbrev pub AwaitsAlone : Phase → LockState → ℕ → (forced timed : Bool) → Outcome → LockState
     → Type 0
-AwaitsAlone Done s t forced false o s2 = o ≡ outcome.TheVariants.End answer.TheVariants.Ok
-AwaitsAlone Done s t forced true o s2 = o ≡ outcome.TheVariants.End answer.TheVariants.Yes
+AwaitsAlone Done s t forced false o s2 = o ≡ outcome.End answer.Ok
+AwaitsAlone Done s t forced true o s2 = o ≡ outcome.End answer.Yes
 AwaitsAlone Poisoned s t false timed o s2 =
-    o ≡ outcome.TheVariants.End answer.TheVariants.Poisoned
+    o ≡ outcome.End answer.Poisoned
 AwaitsAlone phase s t forced timed o s2 = SleepsLast s t Wait o s2
 
 -- the end of a wait: it sleeps after the last, its mutex let go, or ends where another mutex is shown
 pub record CondvarWaitsAlone (w : LocksState) (t l m : ℕ) (o : Outcome) (v : LocksState) : Type 0 where
-  pub other : ShowsOther (w.locks l) m → o ≡ outcome.TheVariants.End answer.TheVariants.TwoMutexes
+  pub other : ShowsOther (w.locks l) m → o ≡ outcome.End answer.TwoMutexes
   pub own : (ShowsOther (w.locks l) m → ⊥)
       → SleepsLast (w.locks l) t Wait o (v.locks l) × ((v.locks m).exclusive ≡ None)
 
 -- A notification alone moves the first, or all.
 abbrev pub NotifiesAlone : Bool → List Queued → Outcome → List Queued → Type 0
-NotifiesAlone false [] o q2 = o ≡ outcome.TheVariants.End answer.TheVariants.No
-NotifiesAlone false (x ∷ q) o q2 = (o ≡ outcome.TheVariants.End answer.TheVariants.Yes) × (q2 ≡ q)
+NotifiesAlone false [] o q2 = o ≡ outcome.End answer.No
+NotifiesAlone false (x ∷ q) o q2 = (o ≡ outcome.End answer.Yes) × (q2 ≡ q)
 NotifiesAlone true q o q2 =
-    (o ≡ outcome.TheVariants.End (answer.TheVariants.Number (length q))) × (q2 ≡ [])
+    (o ≡ outcome.End (answer.Number (length q))) × (q2 ≡ [])
 
 abbrev pub EndsBy : (ℕ → ℕ) → (ℕ → LocksState) → LocksState → ℕ → Option Purpose → Outcome
     → LocksState → Type 0
@@ -270,15 +270,15 @@ EndsAlone w t purpose o v =
 
 -- the last of what was told, and NotNow where nothing was
 abbrev pub last_told : List Outcome → Outcome
-last_told [] = outcome.TheVariants.NotNow
+last_told [] = outcome.NotNow
 last_told (o ∷ []) = o
 last_told (o ∷ os) = last_told os
 
 -- each but the last is a step: the thread rests after no other
 abbrev pub GoesOnUntil : List Outcome → Type 0
 GoesOnUntil [] = Unit {0}
-GoesOnUntil (o ∷ []) = o ≢ outcome.TheVariants.NotNow
-GoesOnUntil (o ∷ os) = (o ≡ outcome.TheVariants.Step) × GoesOnUntil os
+GoesOnUntil (o ∷ []) = o ≢ outcome.NotNow
+GoesOnUntil (o ∷ os) = (o ≡ outcome.Step) × GoesOnUntil os
 
 -- a solo run is a run of at most 64 steps of the thread, whose last outcome is the result
 pub record IsSoloRun (w : State) (t : ℕ) (result : Outcome) (v : State) : Type 0 where

@@ -3,16 +3,16 @@
 use Rattle.std.specs.Prelude.{ℕ, Bool, true, false, ◌==◌, ◌≡◌, ◌≢◌, ◌⊎◌, ◌++◌, Some, List, [], ◌∷◌, is_none}
 use Rattle.std.specs.Prelude.{take}
 use Rattle.spec_locks.specs.declared.calls.Access.TheVariants.{Exclusive}
-use Rattle.spec_locks.specs.declared.calls.Call as call
+use Rattle.spec_locks.specs.declared.calls.Call.TheVariants as call
 use Rattle.spec_locks.specs.declared.calls.MutexCall.TheVariants as mutex_call
 use Rattle.spec_locks.specs.declared.calls.Patience.TheVariants.{Try}
 use Rattle.spec_locks.specs.declared.calls.RwLockCall.TheVariants as rwlock_call
 use Rattle.spec_locks.specs.declared.calls.Turn.{Turn}
-use Rattle.spec_locks.specs.declared.calls.Turn as turn
+use Rattle.spec_locks.specs.declared.calls.Turn.TheVariants as turn
 use Rattle.spec_locks.specs.declared.calls.Step.{Step}
-use Rattle.spec_locks.specs.declared.outcomes.Answer as answer
+use Rattle.spec_locks.specs.declared.outcomes.Answer.TheVariants as answer
 use Rattle.spec_locks.specs.declared.outcomes.Outcome.{Outcome}
-use Rattle.spec_locks.specs.declared.outcomes.Outcome as outcome
+use Rattle.spec_locks.specs.declared.outcomes.Outcome.TheVariants as outcome
 use Rattle.spec_locks.specs.Runs.{IsStep, LocksState}
 use Rattle.spec_locks.specs.Headline.{full_by}
 use Rattle.core_base.specs.declared.ops.Op.TheVariants.{Exchange}
@@ -31,9 +31,9 @@ KeepsWordsAndQueues w v = ((l : ℕ) → word_at v l ≡ word_at w l)
 
 -- a thread that begins a call, looks at a word once more or is late changes no word and no queue
 abbrev pub TouchesOnlyByGoing : State → Turn → State → Type 0
-TouchesOnlyByGoing w (turn.TheVariants.Begin c) v = KeepsWordsAndQueues w v
-TouchesOnlyByGoing w turn.TheVariants.Spin v = KeepsWordsAndQueues w v
-TouchesOnlyByGoing w turn.TheVariants.Late v = KeepsWordsAndQueues w v
+TouchesOnlyByGoing w (turn.Begin c) v = KeepsWordsAndQueues w v
+TouchesOnlyByGoing w turn.Spin v = KeepsWordsAndQueues w v
+TouchesOnlyByGoing w turn.Late v = KeepsWordsAndQueues w v
 TouchesOnlyByGoing w x v = Unit {0}
 
 -- another thread that sleeps does so on, unless this one has it in hand
@@ -44,19 +44,19 @@ SleepersStay w t v =
 
 -- the answer of a try
 abbrev pub tried : Bool → Outcome
-tried true = outcome.TheVariants.End answer.TheVariants.Yes
-tried false = outcome.TheVariants.End answer.TheVariants.No
+tried true = outcome.End answer.Yes
+tried false = outcome.End answer.No
 
 -- a try to lock a mutex, or to write, ends as its thread goes on from its first place, also while
 -- others are inside sections: with the mutex exactly where nobody owns it, and as the writer of a
 -- lock that is shared exactly where the word is 0
 pub record TriesAtOnce (w : State) (t : ℕ) (o : Outcome) : Type 0 where
   pub locks : (l : ℕ)
-      → place_at w t ≡ first_place (kind_at w l) (call.TheVariants.Mutex l mutex_call.TryLock)
+      → place_at w t ≡ first_place (kind_at w l) (call.Mutex l mutex_call.TryLock)
       → o ≡ tried (is_none (lock_state w l).exclusive)
   pub writes : (l : ℕ)
       → place_at w t
-      ≡ first_place (kind_at w l) (call.TheVariants.RwLock l (rwlock_call.Enter Exclusive Try))
+      ≡ first_place (kind_at w l) (call.RwLock l (rwlock_call.Enter Exclusive Try))
       → o ≡ tried (word_at w l == 0)
 
 -- after its own exchange, in place of which it might have looked at the word, a thread looks at that no more
@@ -75,8 +75,8 @@ pub record IsWorldStep (w : State) (s : Step) (o : Outcome) (v : State) : Type 0
   -- a lock is filled where it was before, or where as many share it now as its limit allows
   pub filled : (l : ℕ) → filled_at v l ≡ full_by (filled_at w) (locks_of v) l
   pub sleepers : SleepersStay w s.thread v
-  pub tries : s.turn ≡ turn.TheVariants.Go → TriesAtOnce w s.thread o
-  pub looks_no_more : s.turn ≡ turn.TheVariants.Go → LooksNoMore w s.thread v
+  pub tries : s.turn ≡ turn.Go → TriesAtOnce w s.thread o
+  pub looks_no_more : s.turn ≡ turn.Go → LooksNoMore w s.thread v
   -- the thread of the step begins and ends to owe a wake by what it sees and where it is
   pub owing : OwesSince w s.thread o v
   -- a fair release gives to those that it has taken in one step: of a mutex to the first waiter, of

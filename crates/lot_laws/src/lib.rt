@@ -1,5 +1,5 @@
-//! That the machine behaves as the abstract locks: what is promised of its states and steps, and
-//! the proofs of it.
+//! The machine behaves as the abstract locks: what is promised of its states and steps, and the
+//! proofs.
 #![tactic(auto)]
 
 pub mod laws;

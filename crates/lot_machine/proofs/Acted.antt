@@ -14,8 +14,8 @@ use Rattle.core_base.specs.Requeues.{taken_by}
 use Rattle.steps_base.specs.declared.acts.Act.{Act}
 use Rattle.steps_base.specs.declared.acts.Act.TheVariants.{Word, HandOver, Enter, Park, Take}
 use Rattle.steps_base.specs.declared.acts.Act.TheVariants as act
-use Rattle.steps_base.specs.declared.acts.Wakes as wakes
-use Rattle.steps_base.specs.declared.acts.TakeWhich as whom
+use Rattle.steps_base.specs.declared.acts.Wakes.TheVariants as wakes
+use Rattle.steps_base.specs.declared.acts.TakeWhich.TheVariants as whom
 use Rattle.steps_base.specs.declared.acts.Reply.{Reply}
 use Rattle.steps_base.specs.declared.acts.Reply.TheVariants.{TakenBy, MovedTo, HandedBy, Woken}
 use Rattle.steps_base.specs.Acts.{takes_effect, holds}
@@ -41,7 +41,7 @@ abbrev pub tells : Act → Bool
 tells (HandOver l f) = true
 tells (Take key whom) = true
 tells (act.Requeue from to how) = true
-tells (act.Leave keys (wakes.TheVariants.All n)) = true
+tells (act.Leave keys (wakes.All n)) = true
 tells a = false
 
 module _ (P : Place → Type 0) where
@@ -106,12 +106,12 @@ module _ (P : Place → Type 0) where
         either false = h
     acted_keeps t p (Enter keys) kept h = filled_keeps keys (Some t) h
     acted_keeps t p (Park l key check x) kept h = parked_keeps (holds check (word_at w l)) _ h
-    acted_keeps t p (Take key whom.TheVariants.First) kept h = took_keeps t (kept refl (TakenBy t) tt)
+    acted_keeps t p (Take key whom.First) kept h = took_keeps t (kept refl (TakenBy t) tt)
         (queues_without_first w.queues key) (first_of (queue_at w key)) h
-    acted_keeps t p (Take key (whom.TheVariants.Picked start recursive)) kept h =
+    acted_keeps t p (Take key (whom.Picked start recursive)) kept h =
         told_keeps u (TakenBy t) (kept refl (TakenBy t) tt)
         (threads_of (lock_picked start recursive (queue_at w key))) w.places h
-    acted_keeps t p (Take key whom.TheVariants.All) kept h =
+    acted_keeps t p (Take key whom.All) kept h =
         told_keeps u (TakenBy t) (kept refl (TakenBy t) tt) (threads_of (queue_at w key)) w.places h
     acted_keeps t p (act.Requeue from to how) kept h =
         told_keeps u (MovedTo to) (kept refl (MovedTo to) tt)
@@ -119,11 +119,11 @@ module _ (P : Place → Type 0) where
         (places_told (TakenBy t) (listed (taken_by how (queue_at w from))) w.places)
         (told_keeps u (TakenBy t) (kept refl (TakenBy t) tt) (listed (taken_by how (queue_at w from)))
         w.places h)
-    acted_keeps t p (act.Leave (One key) wakes.TheVariants.Nobody) kept h = h
-    acted_keeps t p (act.Leave (One key) (wakes.TheVariants.All n)) kept h =
+    acted_keeps t p (act.Leave (One key) wakes.Nobody) kept h = h
+    acted_keeps t p (act.Leave (One key) (wakes.All n)) kept h =
         hand_keeps t (Woken n) (kept refl (Woken n) tt) h
-    acted_keeps t p (act.Leave (Two first second) wakes.TheVariants.Nobody) kept h = h
-    acted_keeps t p (act.Leave (Two first second) (wakes.TheVariants.All n)) kept h =
+    acted_keeps t p (act.Leave (Two first second) wakes.Nobody) kept h = h
+    acted_keeps t p (act.Leave (Two first second) (wakes.All n)) kept h =
         hand_keeps t (Woken n) (kept refl (Woken n) tt) h
     acted_keeps t p act.Rest kept h = h
     acted_keeps t p a kept h = h

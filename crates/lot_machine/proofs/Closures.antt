@@ -3,7 +3,7 @@
 use Rattle.std.proofs.Common.{ℕ, Bool, true, false, if◌then◌else◌, ◌==◌, not, ◌≡◌, ◌+◌, ◌-◌, ◌*◌, refl, sym}
 use Rattle.std.proofs.Common.{ap, ◌∙◌}
 use Rattle.core_base.specs.declared.keys.Keys.TheVariants.{One}
-use Rattle.core_base.specs.declared.ops.Op as op
+use Rattle.core_base.specs.declared.ops.Op.TheVariants as op
 use Rattle.steps_base.specs.declared.acts.Act.{Act}
 use Rattle.steps_base.specs.declared.acts.Act.TheVariants.{Word, HandOver, Enter}
 use Rattle.steps_mutex.specs.declared.places.MutexPlace.TheVariants.{Lock, TryLock, Unlock, UnlockFair, Bump}
@@ -73,8 +73,8 @@ runs_none l (Word k f) h = refl
 runs_none l (HandOver k f) h = refl
 runs_none l a h = h
 
-decides_own : (l s : ℕ) (a b : Bool) → IsOwn l (if not a then Word l (op.TheVariants.Exchange s (s + 1))
-    else if b then Word l (op.TheVariants.Exchange 1 3) else Enter (One (2 * l)))
+decides_own : (l s : ℕ) (a b : Bool) → IsOwn l (if not a then Word l (op.Exchange s (s + 1))
+    else if b then Word l (op.Exchange 1 3) else Enter (One (2 * l)))
 decides_own l s false b = refl
 decides_own l s true true = refl
 decides_own l s true false = refl
@@ -86,7 +86,7 @@ rwlock_decides_own l q s decisions.Park = refl
 rwlock_decides_own l q s (decisions.Refuse answer) = refl
 
 counts_own : (l s : ℕ) (b : Bool) → IsOwn l (if b then Enter (One (2 * l + 1))
-    else Word l (op.TheVariants.Exchange s (plus s 2)))
+    else Word l (op.Exchange s (plus s 2)))
 counts_own l s true = refl
 counts_own l s false = refl
 
@@ -120,8 +120,8 @@ rwlock_own l a p at.GiveWay = refl
 rwlock_own l a p (at.Wake m to) = wakes_own l a p.purpose m to
 
 exchanges_own : (l limit : ℕ) (x : Access) (k : Taken) (s : ℕ) (b : Bool)
-    → IsOwn l (if b then HandOver l (op.TheVariants.Exchange s (with_taken x k s)) else Word l
-    (op.TheVariants.Exchange s (parked_as k.none_left (word_without x s))))
+    → IsOwn l (if b then HandOver l (op.Exchange s (with_taken x k s)) else Word l
+    (op.Exchange s (parked_as k.none_left (word_without x s))))
 exchanges_own l limit x k s true = refl
 exchanges_own l limit x k s false = refl
 
@@ -167,14 +167,14 @@ mutex_own l (HandOff b (hand_off.Store false n)) = refl
 mutex_own l (HandOff b (hand_off.Store true n)) = refl
 mutex_own l (HandOff b a) = refl
 
-takes_own : (l s : ℕ) (a b : Bool) → IsOwn l (if a then Word l (op.TheVariants.Exchange s (s - 2)) else if b
-    then Word l (op.TheVariants.Exchange 0 1) else Enter (One (2 * l)))
+takes_own : (l s : ℕ) (a b : Bool) → IsOwn l (if a then Word l (op.Exchange s (s - 2)) else if b
+    then Word l (op.Exchange 0 1) else Enter (One (2 * l)))
 takes_own l s true b = refl
 takes_own l s false true = refl
 takes_own l s false false = refl
 
-tries_own : (l s : ℕ) (a : Bool) → IsOwn l (if a then Word l (op.TheVariants.Exchange s (s - 2))
-    else Word l op.TheVariants.Load)
+tries_own : (l s : ℕ) (a : Bool) → IsOwn l (if a then Word l (op.Exchange s (s - 2))
+    else Word l op.Load)
 tries_own l s true = refl
 tries_own l s false = refl
 

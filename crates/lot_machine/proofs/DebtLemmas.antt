@@ -16,7 +16,7 @@ use Rattle.lot_machine.specs.Views.{debtors, has_debt}
 
 -- ---------------------------------------------------------------- skipped lines
 
--- this many places without the debt are at the head of a list
+-- a number of places without the debt are at the head of a list
 skips_front : (debt : Debt) (l : ℕ) (ps : List Place) (n k : ℕ)
     → ((i : ℕ) → i < k → has_debt (place_of_thread ps i) debt l ≡ false) → debtors debt l n ps
     ≡ debtors debt l (n + k) (drop k ps)

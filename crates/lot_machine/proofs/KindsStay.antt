@@ -6,13 +6,13 @@ use Rattle.core_base.specs.declared.keys.Keys.TheVariants.{One, Two}
 use Rattle.core_base.specs.declared.ops.Op.{Op}
 use Rattle.core_base.specs.declared.wants.Want.{Want}
 use Rattle.core_base.specs.Lines.{first_of}
-use Rattle.spec_locks.specs.declared.kinds.Kind as kind
+use Rattle.spec_locks.specs.declared.kinds.Kind.TheVariants as kind
 use Rattle.steps_base.specs.declared.acts.Act.{Act}
 use Rattle.steps_base.specs.declared.acts.Act.TheVariants.{Word, HandOver, Enter, Park, Take, Remove, Leave}
 use Rattle.steps_base.specs.declared.acts.Check.{Check}
 use Rattle.steps_base.specs.declared.acts.Wakes.{Wakes}
-use Rattle.steps_base.specs.declared.acts.Wakes as wakes
-use Rattle.steps_base.specs.declared.acts.TakeWhich as whom
+use Rattle.steps_base.specs.declared.acts.Wakes.TheVariants as wakes
+use Rattle.steps_base.specs.declared.acts.TakeWhich.TheVariants as whom
 use Rattle.steps_base.specs.Acts.{takes_effect, holds}
 use Rattle.lot_steps.specs.declared.places.Place.{Place}
 use Rattle.lot_machine.specs.Machine.{state_after_hand_over_by, State, unlocked, word_at, kind_at, queue_at}
@@ -40,11 +40,11 @@ set_field f (x ∷ xs) (suc i) y d e (suc j) = set_field f xs i y d e j
 
 pub operated_kinds : (w : State) (t : ℕ) (p : Place) (l : ℕ) (f : Op) (k : ℕ)
     → kind_at (state_after_operation w t p l f) k ≡ kind_at w k
-operated_kinds w t p l f k = set_field (λ x. x.kind) w.locks l _ (unlocked kind.TheVariants.Mutex) refl k
+operated_kinds w t p l f k = set_field (λ x. x.kind) w.locks l _ (unlocked kind.Mutex) refl k
 
 pub given_kinds : (w : State) (t : ℕ) (p : Place) (l : ℕ) (f : Op) (k : ℕ)
     → kind_at (state_after_hand_over w t p l f) k ≡ kind_at w k
-given_kinds w t p l f k = set_field (λ x. x.kind) w.locks l _ (unlocked kind.TheVariants.Mutex) refl k
+given_kinds w t p l f k = set_field (λ x. x.kind) w.locks l _ (unlocked kind.Mutex) refl k
 
 filled_kinds : (w : State) (keys : Keys) (who : Option ℕ) (k : ℕ) → kind_at (state_with_sections w keys who) k
     ≡ kind_at w k
@@ -56,8 +56,8 @@ taken_kinds w t None k = refl
 taken_kinds w t (Some u) k = refl
 
 awakened_kinds : (w : State) (t : ℕ) (x : Wakes) (k : ℕ) → kind_at (state_after_wake w t x) k ≡ kind_at w k
-awakened_kinds w t wakes.TheVariants.Nobody k = refl
-awakened_kinds w t (wakes.TheVariants.All note) k = refl
+awakened_kinds w t wakes.Nobody k = refl
+awakened_kinds w t (wakes.All note) k = refl
 
 parked_kinds : (w : State) (t l key : ℕ) (check : Check) (wanted : Want) (k : ℕ)
     → kind_at (state_after_park w t l key check wanted) k ≡ kind_at w k
@@ -78,7 +78,7 @@ performed_kinds w t p (HandOver l f) k = either (takes_effect f (word_at w l))
     either false = operated_kinds w t p l f k
 performed_kinds w t p (Enter keys) k = filled_kinds w keys (Some t) k
 performed_kinds w t p (Park l key check wanted) k = parked_kinds w t l key check wanted k
-performed_kinds w t p (Take key whom.TheVariants.First) k =
+performed_kinds w t p (Take key whom.First) k =
     taken_kinds (record w { queues = queues_without_first w.queues key }) t (first_of (queue_at w key)) k
 performed_kinds w t p (Remove key) k = refl
 performed_kinds w t p (Leave keys x) k = awakened_kinds (state_with_sections w keys None) t x k

@@ -3,7 +3,7 @@ use Rattle.std.proofs.Common.{◌≡◌, ℕ, zero, suc, ◌*◌, Option, None, 
 use Rattle.std.proofs.Common.{refl, sym, ◌∙◌, ap, ◌∷◌, map}
 use Rattle.std.proofs.lemmas.List.{length-replicate}
 use Rattle.spec_locks.specs.declared.kinds.Kind.{Kind}
-use Rattle.spec_locks.specs.declared.kinds.Kind as kind
+use Rattle.spec_locks.specs.declared.kinds.Kind.TheVariants as kind
 use Rattle.core_base.specs.declared.wants.Waiter.{Waiter}
 use Rattle.lot_steps.specs.declared.places.Place.TheVariants.{Idle}
 use Rattle.lot_machine.specs.Machine.{State, unlocked, opening, nobody, shares_at}
@@ -37,7 +37,7 @@ empty_at (suc n) (suc k) = empty_at n k
 
 -- nobody owns a lock
 pub nobody_owns : (kinds : List Kind) (l : ℕ)
-    → (get_or (map unlocked kinds) l (unlocked kind.TheVariants.Mutex)).owners ≡ nobody
+    → (get_or (map unlocked kinds) l (unlocked kind.Mutex)).owners ≡ nobody
 nobody_owns [] l = refl
 nobody_owns (x ∷ xs) zero = refl
 nobody_owns (x ∷ xs) (suc l) = nobody_owns xs l

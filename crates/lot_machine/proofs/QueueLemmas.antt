@@ -7,7 +7,7 @@ use Rattle.core_base.specs.declared.wants.Waiter.{Waiter}
 use Rattle.core_base.specs.declared.wants.Want.{Want}
 use Rattle.core_base.specs.declared.lock_picker.LockPicker.{LockPicker}
 use Rattle.core_base.specs.declared.requeues.Requeue.{Requeue}
-use Rattle.core_base.specs.declared.requeues.Requeue as requeue
+use Rattle.core_base.specs.declared.requeues.Requeue.TheVariants as requeue
 use Rattle.core_base.specs.Lines.{line, lines, threads_of, waiter, without, without_first, without_key}
 use Rattle.core_base.specs.Picks.{without_picked, without_lock_picked, lock_picker, lock_answer, next_picker}
 use Rattle.core_base.specs.Requeues.{moved_by, left_by, requeued}
@@ -247,10 +247,10 @@ line_moved_other k key (x ∷ q) ne = grind (arith, nat_tests, line_moved_other 
 
 lines_left : (n from : ℕ) (how : Requeue) (xs : List Waiter) → from < n → lines_from 0 n (left_by how from xs)
     ≡ slice_set (lines_from 0 n xs) from (left_in_line how (line from xs))
-lines_left n from requeue.TheVariants.One xs h = lines_first 0 n from from xs h (omega arith)
+lines_left n from requeue.One xs h = lines_first 0 n from from xs h (omega arith)
     ∙ ap (λ q. slice_set (lines_from 0 n xs) from (drop 1 q)) (line_here n from xs h)
-lines_left n from requeue.TheVariants.All xs h = lines_all_taken n from xs (without_key from xs) h refl
-lines_left n from requeue.TheVariants.TakeOneMoveRest xs h = lines_all_taken n from xs (without_key from xs) h
+lines_left n from requeue.All xs h = lines_all_taken n from xs (without_key from xs) h refl
+lines_left n from requeue.TakeOneMoveRest xs h = lines_all_taken n from xs (without_key from xs) h
     refl
 
 -- tells what it does to the lines
@@ -283,9 +283,9 @@ line_left from to how xs ys ne e = line_in from (requeued how from to xs) ys e
     ne) ∙ append-nil (line from (left_by how from xs)) ∙ stay how
   where
     stay : (how : Requeue) → line from (left_by how from xs) ≡ left_in_line how (line from xs)
-    stay requeue.TheVariants.One = line_first from xs
-    stay requeue.TheVariants.All = line_gone from xs
-    stay requeue.TheVariants.TakeOneMoveRest = line_gone from xs
+    stay requeue.One = line_first from xs
+    stay requeue.All = line_gone from xs
+    stay requeue.TakeOneMoveRest = line_gone from xs
 
 -- ---------------------------------------------------------------- a line that is listed
 
@@ -305,7 +305,7 @@ room_for xs ys x rest q all e f =
 
 -- ---------------------------------------------------------------- threads that are told something
 
--- they are as many
+-- both lists are as long
 pub told_count : (reply : Reply) (us : List ℕ) (ps : List Place) → length (places_told reply us ps)
     ≡ length ps
 told_count reply [] ps = refl

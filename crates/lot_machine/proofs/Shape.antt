@@ -20,18 +20,18 @@ use Rattle.steps_base.specs.declared.acts.Act.TheVariants.{Leave}
 use Rattle.steps_base.specs.declared.acts.Act.TheVariants as act
 use Rattle.steps_base.specs.declared.acts.Check.{Check}
 use Rattle.steps_base.specs.declared.acts.Wakes.{Wakes}
-use Rattle.steps_base.specs.declared.acts.Wakes as wakes
+use Rattle.steps_base.specs.declared.acts.Wakes.TheVariants as wakes
 use Rattle.steps_base.specs.declared.acts.Reply.{Reply}
 use Rattle.steps_base.specs.declared.acts.Reply.TheVariants.{Value, TakenBy, MovedTo, HandedBy, Late, Woken}
 use Rattle.steps_base.specs.declared.acts.Reply.TheVariants.{Closed}
 use Rattle.steps_base.specs.declared.acts.Next.{Next}
-use Rattle.steps_base.specs.declared.acts.Next as next
+use Rattle.steps_base.specs.declared.acts.Next.TheVariants as next
 use Rattle.spec_locks.specs.declared.calls.Call.{Call}
 use Rattle.spec_locks.specs.declared.kinds.Kind.{Kind}
 use Rattle.spec_locks.specs.declared.kinds.Kind.TheVariants as kind
 use Rattle.spec_locks.specs.Kinds.{is_condvar}
 use Rattle.spec_locks.specs.declared.calls.Turn.{Turn}
-use Rattle.spec_locks.specs.declared.calls.Turn as turn
+use Rattle.spec_locks.specs.declared.calls.Turn.TheVariants as turn
 use Rattle.spec_locks.specs.declared.calls.Step.{Step}
 use Rattle.lot_steps.specs.declared.places.Place.{Place}
 use Rattle.lot_steps.specs.declared.places.Place.TheVariants.{Idle, Mutex, RwLock, Once, Condvar, Semaphore}
@@ -53,10 +53,10 @@ use Rattle.steps_mutex.specs.declared.places.MutexPlace.TheVariants.{HandOff}
 use Rattle.steps_mutex.specs.declared.lock.LockAt.{LockAt}
 use Rattle.steps_base.specs.Acts.{takes_effect, holds, outcome_of}
 use Rattle.spec_locks.specs.declared.outcomes.Outcome.{Outcome}
-use Rattle.spec_locks.specs.declared.outcomes.Outcome as outcome
+use Rattle.spec_locks.specs.declared.outcomes.Outcome.TheVariants as outcome
 use Rattle.lot_steps.specs.Steps.{next_act}
 use Rattle.core_base.specs.declared.requeues.Requeue.{Requeue}
-use Rattle.core_base.specs.declared.requeues.Requeue as requeue
+use Rattle.core_base.specs.declared.requeues.Requeue.TheVariants as requeue
 use Rattle.core_base.specs.declared.lock_picker.LockPicker.{LockPicker}
 use Rattle.core_base.specs.declared.picks.Pick.{Pick}
 use Rattle.core_base.specs.declared.picks.Pick.TheVariants.{Unpark, Skip, Stop}
@@ -86,8 +86,8 @@ use Rattle.lot_machine.specs.Machine.{can_do, state_after_go, reply_to, state_af
 use Rattle.lot_machine.specs.Machine.{is_open_to, state_after_spin, state_after_late, state_after_late_on}
 use Rattle.lot_machine.specs.Machine.{state_after_turn, can_turn, is_possible, after, state_after_look}
 use Rattle.lot_machine.specs.Machine.{look_outcome, spin_outcome, can_spin, can_go, go_outcome}
-use Rattle.steps_mutex.specs.declared.lock.LockAt as lock
-use Rattle.steps_base.specs.declared.acts.TakeWhich as whom
+use Rattle.steps_mutex.specs.declared.lock.LockAt.TheVariants as lock
+use Rattle.steps_base.specs.declared.acts.TakeWhich.TheVariants as whom
 use Rattle.lot_machine.specs.Fits.{ActFits, AllBelow, IsOfItsKind, IsWellFormed, PlaceFits, SameSize}
 use Rattle.lot_machine.specs.Fits.{ShowsPlainMutex}
 use Rattle.steps_condvar.specs.declared.notify.NotifyAt.{NotifyAt}
@@ -161,23 +161,23 @@ below_moved : (n key : ℕ) (xs : List Waiter) → AllBelow n xs → AllBelow n 
 below_moved n key [] h = tt
 below_moved n key (x ∷ xs) h = (h.0, below_moved n key xs h.1)
 
-below_first : (n : ℕ) (xs : List Waiter) → AllBelow n xs → AllBelow n (moved_by requeue.TheVariants.One xs)
+below_first : (n : ℕ) (xs : List Waiter) → AllBelow n xs → AllBelow n (moved_by requeue.One xs)
 below_first n [] h = tt
 below_first n (x ∷ xs) h = (h.0, tt)
 
 below_requeued : (n key : ℕ) (how : Requeue) (xs : List Waiter) → AllBelow n xs
     → AllBelow n (moved_under key (moved_by how xs))
-below_requeued n key requeue.TheVariants.One xs h = below_moved n key (moved_by requeue.TheVariants.One xs)
+below_requeued n key requeue.One xs h = below_moved n key (moved_by requeue.One xs)
     (below_first n xs h)
-below_requeued n key requeue.TheVariants.All xs h = below_moved n key xs h
-below_requeued n key requeue.TheVariants.TakeOneMoveRest xs h = below_moved n key (drop 1 xs)
+below_requeued n key requeue.All xs h = below_moved n key xs h
+below_requeued n key requeue.TakeOneMoveRest xs h = below_moved n key (drop 1 xs)
     (below_rest n xs h)
 
 below_after_requeue : (n : ℕ) (how : Requeue) (xs : List Waiter) → AllBelow n xs
     → AllBelow n (left_in_line how xs)
-below_after_requeue n requeue.TheVariants.One xs h = below_rest n xs h
-below_after_requeue n requeue.TheVariants.All xs h = tt
-below_after_requeue n requeue.TheVariants.TakeOneMoveRest xs h = tt
+below_after_requeue n requeue.One xs h = below_rest n xs h
+below_after_requeue n requeue.All xs h = tt
+below_after_requeue n requeue.TakeOneMoveRest xs h = tt
 
 -- ---------------------------------------------------------------- lines and sections
 
@@ -328,8 +328,8 @@ told_lined w t reply s = record {
 }
 
 awakened_lined : (w : State) (t : ℕ) (x : Wakes) → IsLined w → IsLined (state_after_wake w t x)
-awakened_lined w t wakes.TheVariants.Nobody s = s
-awakened_lined w t (wakes.TheVariants.All note) s = told_lined w t (Woken note) s
+awakened_lined w t wakes.Nobody s = s
+awakened_lined w t (wakes.All note) s = told_lined w t (Woken note) s
 
 performed_lined : (w : State) (t : ℕ) (p : Place) (act : Act) → IsLined w → t < length w.places
     → IsLined (state_after_act w t p act)
@@ -343,12 +343,12 @@ performed_lined w t p (HandOver l f) s lt = either (takes_effect f (word_at w l)
 performed_lined w t p (Enter keys) s lt = filled_lined w keys (Some t) s
 performed_lined w t p (Park l key check wanted) s lt = parked_lined w t l key check wanted s lt
 performed_lined w t p (Stand key wanted) s lt = stood_lined w t key wanted s lt
-performed_lined w t p (Take key whom.TheVariants.First) s lt = took_lined w t key s
-performed_lined w t p (Take key (whom.TheVariants.Picked start recursive)) s lt =
+performed_lined w t p (Take key whom.First) s lt = took_lined w t key s
+performed_lined w t p (Take key (whom.Picked start recursive)) s lt =
     takes_lined w t key (threads_of (lock_picked start recursive (queue_at w key)))
     (without_lock_picked start recursive key (queue_at w key)) s (below_unpicked (length w.places)
     (lock_picker start recursive) key (queue_at w key) (s.waiting key))
-performed_lined w t p (Take key whom.TheVariants.All) s lt = takes_lined w t key (threads_of (queue_at w key))
+performed_lined w t p (Take key whom.All) s lt = takes_lined w t key (threads_of (queue_at w key))
     [] s tt
 performed_lined w t p (act.Requeue from to how) s lt = requeued_lined w t from to how s
 performed_lined w t p (Remove key) s lt = removed_lined w t s
@@ -382,7 +382,7 @@ performed_counts w t p (Park l key check wanted) = either (holds check (word_at 
         ≡ length w.locks)
     either true = (refl, refl)
     either false = (refl, refl)
-performed_counts w t p (Take key whom.TheVariants.First) = by_first (first_of (queue_at w key))
+performed_counts w t p (Take key whom.First) = by_first (first_of (queue_at w key))
   where
     by_first : (o : Option ℕ) → (length
         (state_after_taking (record w { queues = queues_without_first w.queues key }) t o).places
@@ -390,9 +390,9 @@ performed_counts w t p (Take key whom.TheVariants.First) = by_first (first_of (q
         (record w { queues = queues_without_first w.queues key }) t o).locks ≡ length w.locks)
     by_first None = (refl, refl)
     by_first (Some u) = (length-set w.places u _, refl)
-performed_counts w t p (Take key (whom.TheVariants.Picked start recursive)) =
+performed_counts w t p (Take key (whom.Picked start recursive)) =
     (told_count (TakenBy t) (threads_of (lock_picked start recursive (queue_at w key))) w.places, refl)
-performed_counts w t p (Take key whom.TheVariants.All) =
+performed_counts w t p (Take key whom.All) =
     (told_count (TakenBy t) (threads_of (queue_at w key)) w.places, refl)
 performed_counts w t p (act.Requeue from to how) = (
   told_count (MovedTo to) (moved_threads how (threads_of (queue_at w from)))
@@ -400,8 +400,8 @@ performed_counts w t p (act.Requeue from to how) = (
       ∙ told_count (TakenBy t) (listed (taken_by how (queue_at w from))) w.places,
   refl,
 )
-performed_counts w t p (Leave keys wakes.TheVariants.Nobody) = filled_counts w keys None
-performed_counts w t p (Leave keys (wakes.TheVariants.All note)) = (
+performed_counts w t p (Leave keys wakes.Nobody) = filled_counts w keys None
+performed_counts w t p (Leave keys (wakes.All note)) = (
   length-map (state_with_sections w keys None).places (place_after_telling t (Woken note))
       ∙ (filled_counts w keys None).0,
   (filled_counts w keys None).1,
@@ -502,7 +502,7 @@ pub went_told : (w v : State) (t : ℕ) (p : Place) (a : Act) (r : Reply) (b : B
     → can_do w a ≡ b
     → Some r ≡ (if b then Some (reply_to w t a) else None) → v ≡ (if b then state_after_act w t p a else w)
     → (o : Outcome) → o ≡ outcome_of (next_act (place_at v t) r)
-    → o ≡ (if can_do w (act_of p) then going_outcome w t p else outcome.TheVariants.NotNow)
+    → o ≡ (if can_do w (act_of p) then going_outcome w t p else outcome.NotNow)
 went_told w v t p a r true ea eb er ev o eo = rw (← ea, eb) (let same : r ≡ reply_to w t a = cc
     in rw (eo, ev, same, ea) refl)
 went_told w v t p a r false ea eb er ev o eo = absurd cc
@@ -513,9 +513,9 @@ IsTimelyReply reply = Unit {0}
 
 -- no reply to an act says that a thread is late
 replies_timely : (w : State) (t : ℕ) (a : Act) → IsTimelyReply (reply_to w t a)
-replies_timely w t (Take key whom.TheVariants.First) = tt
-replies_timely w t (Take key (whom.TheVariants.Picked start recursive)) = tt
-replies_timely w t (Take key whom.TheVariants.All) = tt
+replies_timely w t (Take key whom.First) = tt
+replies_timely w t (Take key (whom.Picked start recursive)) = tt
+replies_timely w t (Take key whom.All) = tt
 replies_timely w t a = tt
 
 -- only a notification's first step depends on what it sees
@@ -528,33 +528,33 @@ looks_not_next Idle reply h = tt
 looks_not_next (Mutex l at) reply h = by_next (mutex_next at reply)
   where
     by_next : (n : Next MutexPlace) → LooksNot (mutex_goes l n)
-    by_next (next.TheVariants.At at2) = tt
-    by_next (next.TheVariants.End answer) = tt
+    by_next (next.At at2) = tt
+    by_next (next.End answer) = tt
 looks_not_next (RwLock l a at) reply h = by_next (call_next a at reply)
   where
     by_next : (n : Next RwLockCallPlace) → LooksNot (rwlock_goes l a n)
-    by_next (next.TheVariants.At at2) = tt
-    by_next (next.TheVariants.End answer) = tt
+    by_next (next.At at2) = tt
+    by_next (next.End answer) = tt
 looks_not_next (Once l at) reply h = by_next (once_next at reply)
   where
     by_next : (n : Next OncePlace) → LooksNot (once_goes l n)
-    by_next (next.TheVariants.At at2) = tt
-    by_next (next.TheVariants.End answer) = tt
+    by_next (next.At at2) = tt
+    by_next (next.End answer) = tt
 looks_not_next (Semaphore l at) reply h = by_next (semaphore_next at reply)
   where
     by_next : (n : Next SemaphorePlace) → LooksNot (semaphore_goes l n)
-    by_next (next.TheVariants.At at2) = tt
-    by_next (next.TheVariants.End answer) = tt
+    by_next (next.At at2) = tt
+    by_next (next.End answer) = tt
 looks_not_next (Condvar l (Wait m timed at)) reply h = by_next (next_wait m timed at reply)
   where
     by_next : (n : Next WaitAt) → LooksNot (condvar_goes l (in_wait m timed n))
-    by_next (next.TheVariants.At at2) = tt
-    by_next (next.TheVariants.End answer) = tt
+    by_next (next.At at2) = tt
+    by_next (next.End answer) = tt
 looks_not_next (Condvar l (Notify all m at)) reply h = by_next (next_notify all m at reply)
   where
     by_next : (n : Next NotifyAt) → LooksNot (condvar_goes l (in_notify all m n))
-    by_next (next.TheVariants.At at2) = tt
-    by_next (next.TheVariants.End answer) = tt
+    by_next (next.At at2) = tt
+    by_next (next.End answer) = tt
 looks_not_next (Condvar l (Look all)) reply h = absurd h
 
 others_see : (locks : ℕ) (kinds : ℕ → Kind) (p : Place) (seen : ℕ) → LooksNot p → SeesFit locks kinds p seen
@@ -670,12 +670,12 @@ spun w v t q lt is e = e ∙ ap (λ b. if b then state_after_go (put w t q) t el
 -- A thread that looks once more is told so, in the state that it found.
 pub spun_told : {v w : State} → v ≡ w → (t : ℕ) (q : Place) (told : Outcome) → t < length v.places
     → respins_from (place_at v t) ≡ Some q → told ≡ (if can_go (put v t q) t then go_outcome (put v t q) t
-    else outcome.TheVariants.NotNow) → told ≡ (if can_spin w t then spin_outcome w t
-    else outcome.TheVariants.NotNow)
+    else outcome.NotNow) → told ≡ (if can_spin w t then spin_outcome w t
+    else outcome.NotNow)
 spun_told {v} same t q told lt is e =
-    subst (λ (w : State). told ≡ (if can_spin w t then spin_outcome w t else outcome.TheVariants.NotNow)) same
-    (e ∙ ap (λ b. if b then go_outcome (put v t q) t else outcome.TheVariants.NotNow) (looks_go v t q lt is)
-    ∙ sym (ap (λ o. if is_some o then look_outcome v t o else outcome.TheVariants.NotNow) is))
+    subst (λ (w : State). told ≡ (if can_spin w t then spin_outcome w t else outcome.NotNow)) same
+    (e ∙ ap (λ b. if b then go_outcome (put v t q) t else outcome.NotNow) (looks_go v t q lt is)
+    ∙ sym (ap (λ o. if is_some o then look_outcome v t o else outcome.NotNow) is))
 
 spun_well_formed : (w : State) (t : ℕ) → IsWellFormed w → t < length w.places
     → IsWellFormed (state_after_spin w t)
@@ -690,7 +690,7 @@ lated_well_formed : (w : State) (t : ℕ) → IsWellFormed w → IsWellFormed (s
 lated_well_formed w t s = by_place (place_at w t) refl
   where
     asleep : (l : ℕ) (entry : Entry) (retries : Bool) → place_at w t ≡ Mutex l
-        (Lock entry retries lock.TheVariants.Asleep) → (b : Bool) → is_timed entry ≡ b
+        (Lock entry retries lock.Asleep) → (b : Bool) → is_timed entry ≡ b
         → IsWellFormed (state_after_late_on w t (key_in (Some l) (in_line b Main)))
     asleep l entry retries e true timed = befallen_well_formed (state_with_sections w (One (2 * l)) (Some t))
         t
@@ -700,7 +700,7 @@ lated_well_formed w t s = by_place (place_at w t) refl
     locks : (l : ℕ) (entry : Entry) (retries : Bool) (at : LockAt) → place_at w t
         ≡ Mutex l (Lock entry retries at)
         → IsWellFormed (state_after_late_on w t (late_key (Mutex l (Lock entry retries at))))
-    locks l entry retries lock.TheVariants.Asleep e = asleep l entry retries e (is_timed entry) refl
+    locks l entry retries lock.Asleep e = asleep l entry retries e (is_timed entry) refl
     locks l entry retries at e = s
 
     waits : (l : ℕ) (at : CondvarPlace) → place_at w t ≡ Condvar l at
@@ -768,13 +768,13 @@ closed w v t succeeded q lt runs is e = rw (closing_can w t succeeded runs)
 
 pub closed_told : {v w : State} → v ≡ w → (t : ℕ) (succeeded : Bool) (q : Place) (told : Outcome)
     → t < length v.places → runs_closure (act_of (place_at v t)) ≡ true → q ≡ closed_place v t succeeded
-    → told ≡ (if can_go (put v t q) t then go_outcome (put v t q) t else outcome.TheVariants.NotNow)
-    → told ≡ (if can_close w t succeeded then close_outcome w t succeeded else outcome.TheVariants.NotNow)
+    → told ≡ (if can_go (put v t q) t then go_outcome (put v t q) t else outcome.NotNow)
+    → told ≡ (if can_close w t succeeded then close_outcome w t succeeded else outcome.NotNow)
 closed_told {v} same t succeeded q told lt runs is e =
     subst (λ (w : State). told ≡ (if can_close w t succeeded then close_outcome w t succeeded
-    else outcome.TheVariants.NotNow)) same
+    else outcome.NotNow)) same
     (rw (closing_can v t succeeded runs) (subst (λ p. told ≡ go_outcome (put v t p) t) is
-    (e ∙ ap (λ b. if b then go_outcome (put v t q) t else outcome.TheVariants.NotNow)
+    (e ∙ ap (λ b. if b then go_outcome (put v t q) t else outcome.NotNow)
     (goes_closed v t succeeded q lt runs is))))
 
 closed_well_formed : (w : State) (t : ℕ) (succeeded : Bool) → IsWellFormed w → t < length w.places
@@ -787,12 +787,12 @@ closed_well_formed w t succeeded s lt =
 turned_well_formed : (w : State) (t : ℕ) (x : Turn) → IsWellFormed w → t < length w.places → can_turn w t x
     ≡ true
     → IsWellFormed (state_after_turn w t x)
-turned_well_formed w t (turn.TheVariants.Begin c) s lt can = begun_well_formed w t c s can
-turned_well_formed w t turn.TheVariants.Go s lt can = gone_well_formed w t s lt
-turned_well_formed w t turn.TheVariants.Spin s lt can = spun_well_formed w t s lt
-turned_well_formed w t turn.TheVariants.Late s lt can = lated_well_formed w t s
-turned_well_formed w t turn.TheVariants.Ok s lt can = closed_well_formed w t true s lt
-turned_well_formed w t turn.TheVariants.Err s lt can = closed_well_formed w t false s lt
+turned_well_formed w t (turn.Begin c) s lt can = begun_well_formed w t c s can
+turned_well_formed w t turn.Go s lt can = gone_well_formed w t s lt
+turned_well_formed w t turn.Spin s lt can = spun_well_formed w t s lt
+turned_well_formed w t turn.Late s lt can = lated_well_formed w t s
+turned_well_formed w t turn.Ok s lt can = closed_well_formed w t true s lt
+turned_well_formed w t turn.Err s lt can = closed_well_formed w t false s lt
 
 -- a step keeps the shape
 pub after_well_formed : (w : State) (s : Step) → IsWellFormed w → IsWellFormed (after w s)
@@ -856,16 +856,16 @@ put_went_size w t q = size_more w (put w t q) (state_after_go (put w t q) t) (re
     (went_size (put w t q) t (place_at (put w t q) t))
 
 turned_size : (w : State) (t : ℕ) (x : Turn) → SameSize w (state_after_turn w t x)
-turned_size w t (turn.TheVariants.Begin c) = record { threads = length-set w.places t _; locks = refl }
-turned_size w t turn.TheVariants.Go = went_size w t (place_at w t)
-turned_size w t turn.TheVariants.Ok = put_went_size w t (closed_place w t true)
-turned_size w t turn.TheVariants.Err = put_went_size w t (closed_place w t false)
-turned_size w t turn.TheVariants.Spin = by_place (respins_from (place_at w t))
+turned_size w t (turn.Begin c) = record { threads = length-set w.places t _; locks = refl }
+turned_size w t turn.Go = went_size w t (place_at w t)
+turned_size w t turn.Ok = put_went_size w t (closed_place w t true)
+turned_size w t turn.Err = put_went_size w t (closed_place w t false)
+turned_size w t turn.Spin = by_place (respins_from (place_at w t))
   where
     by_place : (o : Option Place) → SameSize w (state_after_look w t o)
     by_place None = record { threads = refl; locks = refl }
     by_place (Some q) = put_went_size w t q
-turned_size w t turn.TheVariants.Late = by_key (late_key (place_at w t))
+turned_size w t turn.Late = by_key (late_key (place_at w t))
   where
     by_key : (o : Option ℕ) → SameSize w (state_after_late_on w t o)
     by_key None = record { threads = refl; locks = refl }

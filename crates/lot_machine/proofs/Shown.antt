@@ -9,8 +9,8 @@ use Rattle.spec_locks.specs.declared.kinds.Kind.TheVariants as kinds
 use Rattle.spec_locks.specs.Kinds.{is_condvar, is_fair, is_plain_mutex}
 use Rattle.steps_base.specs.declared.acts.Act.{Act}
 use Rattle.steps_base.specs.declared.acts.Act.TheVariants.{Word, HandOver, Enter, Park, Take, Leave}
-use Rattle.steps_base.specs.declared.acts.Wakes as wakes
-use Rattle.steps_base.specs.declared.acts.TakeWhich as whom
+use Rattle.steps_base.specs.declared.acts.Wakes.TheVariants as wakes
+use Rattle.steps_base.specs.declared.acts.TakeWhich.TheVariants as whom
 use Rattle.steps_base.specs.Acts.{holds, takes_effect}
 use Rattle.steps_once.specs.declared.give_up.GiveUpAt.TheVariants as give_up
 use Rattle.steps_once.specs.declared.look.LookAt.TheVariants as look
@@ -76,19 +76,19 @@ performed_shown w t p (Park k key check x) shown writes l = either (holds check 
         (unlocked kinds.Mutex))
     either true = shown l
     either false = shown l
-performed_shown w t p (Take key whom.TheVariants.First) shown writes l = by_first (first_of (queue_at w key))
+performed_shown w t p (Take key whom.First) shown writes l = by_first (first_of (queue_at w key))
   where
     by_first : (o : Option ℕ) → LockShows w
         (get_or (state_after_taking (record w { queues = queues_without_first w.queues key }) t o).locks l
         (unlocked kinds.Mutex))
     by_first None = shown l
     by_first (Some u) = shown l
-performed_shown w t p (Take key (whom.TheVariants.Picked start recursive)) shown writes l = shown l
-performed_shown w t p (Take key whom.TheVariants.All) shown writes l = shown l
-performed_shown w t p (Leave (One key) wakes.TheVariants.Nobody) shown writes l = shown l
-performed_shown w t p (Leave (One key) (wakes.TheVariants.All n)) shown writes l = shown l
-performed_shown w t p (Leave (Two first second) wakes.TheVariants.Nobody) shown writes l = shown l
-performed_shown w t p (Leave (Two first second) (wakes.TheVariants.All n)) shown writes l = shown l
+performed_shown w t p (Take key (whom.Picked start recursive)) shown writes l = shown l
+performed_shown w t p (Take key whom.All) shown writes l = shown l
+performed_shown w t p (Leave (One key) wakes.Nobody) shown writes l = shown l
+performed_shown w t p (Leave (One key) (wakes.All n)) shown writes l = shown l
+performed_shown w t p (Leave (Two first second) wakes.Nobody) shown writes l = shown l
+performed_shown w t p (Leave (Two first second) (wakes.All n)) shown writes l = shown l
 performed_shown w t p a shown writes l = shown l
 
 -- ---------------------------------------------------------------- a thread that works on a word

@@ -2,14 +2,14 @@
 use Rattle.std.proofs.Common.{ℕ, Bool, true, false, if◌then◌else◌, ◌==◌, ◌&&◌, ◌||◌, not, nat_lt, ◌≡◌, ◌<◌}
 use Rattle.std.proofs.Common.{inl, inr, length, refl, sym, subst}
 use Rattle.std.proofs.lemmas.Bool.{ltb-true}
-use Rattle.core_base.specs.declared.notes.Note as note
-use Rattle.spec_locks.specs.declared.outcomes.Answer as answer
+use Rattle.core_base.specs.declared.notes.Note.TheVariants as note
+use Rattle.spec_locks.specs.declared.outcomes.Answer.TheVariants as answer
 use Rattle.spec_locks.specs.declared.calls.Call.{Call}
-use Rattle.spec_locks.specs.declared.calls.Call as call
+use Rattle.spec_locks.specs.declared.calls.Call.TheVariants as call
 use Rattle.spec_locks.specs.declared.calls.CondvarCall.{CondvarCall}
 use Rattle.spec_locks.specs.declared.calls.CondvarCall.TheVariants as condvar_call
 use Rattle.spec_locks.specs.declared.calls.MutexCall.{MutexCall}
-use Rattle.spec_locks.specs.declared.calls.MutexCall as mutex_call
+use Rattle.spec_locks.specs.declared.calls.MutexCall.TheVariants as mutex_call
 use Rattle.spec_locks.specs.declared.calls.OnceCall.{OnceCall}
 use Rattle.spec_locks.specs.declared.calls.RwLockCall.{RwLockCall}
 use Rattle.spec_locks.specs.declared.calls.SemaphoreCall.{SemaphoreCall}
@@ -18,15 +18,15 @@ use Rattle.spec_locks.specs.declared.kinds.Kind.TheVariants as kinds
 use Rattle.spec_locks.specs.Calls.{lock_in, mutex_in}
 use Rattle.spec_locks.specs.Kinds.{has_call, is_condvar, is_fair, is_plain_mutex}
 use Rattle.steps_base.specs.declared.acts.Next.{Next}
-use Rattle.steps_base.specs.declared.acts.Next as next
+use Rattle.steps_base.specs.declared.acts.Next.TheVariants as next
 use Rattle.steps_base.specs.declared.acts.Reply.{Reply}
 use Rattle.steps_base.specs.declared.acts.Reply.TheVariants.{Done, Value, Parked, Removed, Took, HandedBy}
 use Rattle.steps_base.specs.declared.acts.Reply.TheVariants.{Late, Woken}
 use Rattle.steps_mutex.specs.declared.lock.Entry.{Entry}
 use Rattle.steps_mutex.specs.declared.lock.LockAt.{LockAt}
-use Rattle.steps_mutex.specs.declared.lock.LockAt as lock
+use Rattle.steps_mutex.specs.declared.lock.LockAt.TheVariants as lock
 use Rattle.steps_mutex.specs.declared.unlock.UnlockAt.{UnlockAt}
-use Rattle.steps_mutex.specs.declared.unlock.UnlockAt as unlock
+use Rattle.steps_mutex.specs.declared.unlock.UnlockAt.TheVariants as unlock
 use Rattle.steps_mutex.specs.declared.hand_off.HandOffAt.{HandOffAt}
 use Rattle.steps_mutex.specs.declared.hand_off.HandOffAt.TheVariants as hand_off
 use Rattle.steps_mutex.specs.declared.places.MutexPlace.{MutexPlace}
@@ -89,71 +89,71 @@ ReplyFits locks kinds p reply = Unit {0}
 -- ---------------------------------------------------------------- mutexes
 
 abbrev pub NextFits : Next MutexPlace → Type 0
-NextFits (next.TheVariants.At at) = GivesUpTimed at
-NextFits (next.TheVariants.End answer) = Unit {0}
+NextFits (next.At at) = GivesUpTimed at
+NextFits (next.End answer) = Unit {0}
 
 lock_fits : (locks : ℕ) (kinds : ℕ → Kind) (l : ℕ) (entry : Entry) (retries : Bool) (at : LockAt)
     (reply : Reply) → GivesUpTimed (Lock entry retries at)
     → ReplyFits locks kinds (Mutex l (Lock entry retries at)) reply
     → NextFits (mutex_next (Lock entry retries at) reply)
-lock_fits locks kinds l entry retries lock.TheVariants.First (Value seen) h late = either (seen == 0)
+lock_fits locks kinds l entry retries lock.First (Value seen) h late = either (seen == 0)
   where
-    either : (b : Bool) → NextFits (in_lock entry retries (if b then next.TheVariants.End (entered entry)
-        else next.TheVariants.At lock.TheVariants.Load))
+    either : (b : Bool) → NextFits (in_lock entry retries (if b then next.End (entered entry)
+        else next.At lock.Load))
     either true = tt
     either false = tt
-lock_fits locks kinds l entry retries (lock.TheVariants.Decide s) (Value seen) h late =
+lock_fits locks kinds l entry retries (lock.Decide s) (Value seen) h late =
     either (not (seen == s)) (is_locked seen)
   where
     either : (a b : Bool) → NextFits (in_lock entry retries
-        (if a then next.TheVariants.At (lock.TheVariants.Decide seen) else if b then next.TheVariants.At
-        (lock.TheVariants.Decide 3) else next.TheVariants.End (entered entry)))
+        (if a then next.At (lock.Decide seen) else if b then next.At
+        (lock.Decide 3) else next.End (entered entry)))
     either true b = tt
     either false true = tt
     either false false = tt
-lock_fits locks kinds l entry retries lock.TheVariants.Load (Value seen) h late = tt
-lock_fits locks kinds l entry retries lock.TheVariants.Check (Parked state_after_park) h late = tt
-lock_fits locks kinds l entry retries (lock.TheVariants.Leave true) Done h late = tt
-lock_fits locks kinds l entry retries (lock.TheVariants.Leave false) Done h late = tt
-lock_fits locks kinds l entry retries lock.TheVariants.Asleep Late h late = late
-lock_fits locks kinds l entry retries lock.TheVariants.Asleep (Woken note.TheVariants.Normal) h late = tt
-lock_fits locks kinds l entry retries lock.TheVariants.Asleep (Woken note.TheVariants.HandOff) h late = tt
-lock_fits locks kinds l entry retries lock.TheVariants.Remove (Removed true) h late = h
-lock_fits locks kinds l entry retries lock.TheVariants.Remove (Removed false) h late = h
-lock_fits locks kinds l entry retries lock.TheVariants.Clear (Value seen) h late = h
-lock_fits locks kinds l entry retries (lock.TheVariants.Taken by) (Woken note.TheVariants.Normal) h late = tt
-lock_fits locks kinds l entry retries (lock.TheVariants.Taken by) (HandedBy t alone) h late = tt
-lock_fits locks kinds l entry retries (lock.TheVariants.Handed by) (Woken note.TheVariants.HandOff) h late =
+lock_fits locks kinds l entry retries lock.Load (Value seen) h late = tt
+lock_fits locks kinds l entry retries lock.Check (Parked state_after_park) h late = tt
+lock_fits locks kinds l entry retries (lock.Leave true) Done h late = tt
+lock_fits locks kinds l entry retries (lock.Leave false) Done h late = tt
+lock_fits locks kinds l entry retries lock.Asleep Late h late = late
+lock_fits locks kinds l entry retries lock.Asleep (Woken note.Normal) h late = tt
+lock_fits locks kinds l entry retries lock.Asleep (Woken note.HandOff) h late = tt
+lock_fits locks kinds l entry retries lock.Remove (Removed true) h late = h
+lock_fits locks kinds l entry retries lock.Remove (Removed false) h late = h
+lock_fits locks kinds l entry retries lock.Clear (Value seen) h late = h
+lock_fits locks kinds l entry retries (lock.Taken by) (Woken note.Normal) h late = tt
+lock_fits locks kinds l entry retries (lock.Taken by) (HandedBy t alone) h late = tt
+lock_fits locks kinds l entry retries (lock.Handed by) (Woken note.HandOff) h late =
     tt
-lock_fits locks kinds l entry retries lock.TheVariants.Accept Done h late = tt
-lock_fits locks kinds l entry retries lock.TheVariants.GiveUp Done h late = tt
+lock_fits locks kinds l entry retries lock.Accept Done h late = tt
+lock_fits locks kinds l entry retries lock.GiveUp Done h late = tt
 lock_fits locks kinds l entry retries at reply h late = h
 
 try_fits : (reply : Reply) → NextFits (try_next reply)
 try_fits (Value seen) = either (is_locked seen)
   where
-    either : (b : Bool) → NextFits (if b then next.TheVariants.End answer.TheVariants.No
-        else next.TheVariants.End answer.TheVariants.Yes)
+    either : (b : Bool) → NextFits (if b then next.End answer.No
+        else next.End answer.Yes)
     either true = tt
     either false = tt
 try_fits reply = tt
 
 unlock_fits : (at : UnlockAt) (reply : Reply) → NextFits (in_unlock (next_unlock at reply))
-unlock_fits unlock.TheVariants.Subtract (Value seen) = either (is_parked seen)
+unlock_fits unlock.Subtract (Value seen) = either (is_parked seen)
   where
-    either : (b : Bool) → NextFits (in_unlock (if b then next.TheVariants.At unlock.TheVariants.Enter
-        else next.TheVariants.End answer.TheVariants.Ok))
+    either : (b : Bool) → NextFits (in_unlock (if b then next.At unlock.Enter
+        else next.End answer.Ok))
     either true = tt
     either false = tt
-unlock_fits unlock.TheVariants.Take (Took any none_left) = either none_left
+unlock_fits unlock.Take (Took any none_left) = either none_left
   where
-    either : (b : Bool) → NextFits (in_unlock (if b then next.TheVariants.At (unlock.TheVariants.Clear any)
-        else next.TheVariants.At (unlock.TheVariants.Leave any)))
+    either : (b : Bool) → NextFits (in_unlock (if b then next.At (unlock.Clear any)
+        else next.At (unlock.Leave any)))
     either true = tt
     either false = tt
-unlock_fits unlock.TheVariants.Enter Done = tt
-unlock_fits (unlock.TheVariants.Clear taken) (Value seen) = tt
-unlock_fits (unlock.TheVariants.Leave taken) Done = tt
+unlock_fits unlock.Enter Done = tt
+unlock_fits (unlock.Clear taken) (Value seen) = tt
+unlock_fits (unlock.Leave taken) Done = tt
 unlock_fits at reply = tt
 
 looked_fits : (bumps saw_waiters : Bool) → NextFits (looked bumps saw_waiters)
@@ -179,48 +179,48 @@ hand_off_fits bumps at reply = tt
 
 mutex_suits : (locks : ℕ) (kinds : ℕ → Kind) (l : ℕ) (at : MutexPlace) (n : Next MutexPlace)
     → Suits locks kinds (Mutex l at) → NextFits n → Suits locks kinds (mutex_goes l n)
-mutex_suits locks kinds l at (next.TheVariants.At at2) h fits = ((h.0.0, fits), h.1)
-mutex_suits locks kinds l at (next.TheVariants.End answer) h fits = (tt, tt)
+mutex_suits locks kinds l at (next.At at2) h fits = ((h.0.0, fits), h.1)
+mutex_suits locks kinds l at (next.End answer) h fits = (tt, tt)
 
 rwlock_suits : (locks : ℕ) (kinds : ℕ → Kind) (l : ℕ) (a : Admission) (at : RwLockCallPlace)
     (n : Next RwLockCallPlace) → Suits locks kinds (RwLock l a at) → Suits locks kinds (rwlock_goes l a n)
-rwlock_suits locks kinds l a at (next.TheVariants.At at2) h = h
-rwlock_suits locks kinds l a at (next.TheVariants.End answer) h = (tt, tt)
+rwlock_suits locks kinds l a at (next.At at2) h = h
+rwlock_suits locks kinds l a at (next.End answer) h = (tt, tt)
 
 once_suits : (locks : ℕ) (kinds : ℕ → Kind) (l : ℕ) (at : OncePlace) (n : Next OncePlace)
     → Suits locks kinds (Once l at) → Suits locks kinds (once_goes l n)
-once_suits locks kinds l at (next.TheVariants.At at2) h = h
-once_suits locks kinds l at (next.TheVariants.End answer) h = (tt, tt)
+once_suits locks kinds l at (next.At at2) h = h
+once_suits locks kinds l at (next.End answer) h = (tt, tt)
 
 semaphore_suits : (locks : ℕ) (kinds : ℕ → Kind) (l : ℕ) (at : SemaphorePlace) (n : Next SemaphorePlace)
     → Suits locks kinds (Semaphore l at) → Suits locks kinds (semaphore_goes l n)
-semaphore_suits locks kinds l at (next.TheVariants.At at2) h = h
-semaphore_suits locks kinds l at (next.TheVariants.End answer) h = (tt, tt)
+semaphore_suits locks kinds l at (next.At at2) h = h
+semaphore_suits locks kinds l at (next.End answer) h = (tt, tt)
 
 -- ---------------------------------------------------------------- condition variables
 
 module _ (locks : ℕ) (kinds : ℕ → Kind) (c : ℕ) where
   module _ (m : ℕ) (timed : Bool) where
     abbrev TimelyNext : Next WaitAt → Type 0
-    TimelyNext (next.TheVariants.At at) = GivesUpOnlyTimed (Wait m timed at)
-    TimelyNext (next.TheVariants.End answer) = Unit {0}
+    TimelyNext (next.At at) = GivesUpOnlyTimed (Wait m timed at)
+    TimelyNext (next.End answer) = Unit {0}
 
     -- a thread that has released its mutex is not late
     after_timely : (s : WaiterFate) → GivesUpOnlyTimed (Wait m timed (past_release s))
-    after_timely (stands.Noted note.TheVariants.Normal) = tt
-    after_timely (stands.Noted note.TheVariants.HandOff) = tt
+    after_timely (stands.Noted note.Normal) = tt
+    after_timely (stands.Noted note.HandOff) = tt
     after_timely s = tt
 
     releases_timely : (s : WaiterFate) (at : MutexPlace) (n : Next MutexPlace) (b : Bool)
         → GivesUpOnlyTimed (Wait m timed (if b then wait.Release s at else released s n))
     releases_timely s at n true = tt
-    releases_timely s at (next.TheVariants.At at2) false = tt
-    releases_timely s at (next.TheVariants.End answer) false = after_timely s
+    releases_timely s at (next.At at2) false = tt
+    releases_timely s at (next.End answer) false = after_timely s
 
     relocks_timely : (timed_out : Bool) (at : MutexPlace) (n : Next MutexPlace)
         → GivesUpOnlyTimed (Wait m timed (wait.Lock timed_out at)) → TimelyNext (relocked timed timed_out n)
-    relocks_timely timed_out at (next.TheVariants.At at2) h = h
-    relocks_timely timed_out at (next.TheVariants.End answer) h = tt
+    relocks_timely timed_out at (next.At at2) h = h
+    relocks_timely timed_out at (next.End answer) h = tt
 
     late_timely : (s : WaiterFate) → timed ≡ true → GivesUpOnlyTimed (Wait m timed (late_place s))
     late_timely stands.Listed late = late
@@ -232,7 +232,7 @@ module _ (locks : ℕ) (kinds : ℕ → Kind) (c : ℕ) where
     wait_timely wait.Enter Done h r = tt
     wait_timely wait.Show (Value seen) h r = either ((seen == 0) || is_shown seen m)
       where
-        either : (b : Bool) → TimelyNext (if b then next.TheVariants.At wait.Stand else next.TheVariants.At
+        either : (b : Bool) → TimelyNext (if b then next.At wait.Stand else next.At
             wait.Refuse)
         either true = tt
         either false = tt
@@ -253,7 +253,7 @@ module _ (locks : ℕ) (kinds : ℕ → Kind) (c : ℕ) where
     wait_timely (wait.Asleep s) reply h r = after_timely (stands_after s reply)
     wait_timely wait.Remove (Removed none_left) h r = either none_left
       where
-        either : (b : Bool) → TimelyNext (if b then next.TheVariants.At wait.Hide else next.TheVariants.At
+        either : (b : Bool) → TimelyNext (if b then next.At wait.Hide else next.At
             wait.GiveUp)
         either true = h
         either false = h
@@ -266,13 +266,13 @@ module _ (locks : ℕ) (kinds : ℕ → Kind) (c : ℕ) where
 
     wait_suits : (at : WaitAt) (n : Next WaitAt) → Suits locks kinds (Condvar c (Wait m timed at))
         → TimelyNext n → Suits locks kinds (condvar_goes c (in_wait m timed n))
-    wait_suits at (next.TheVariants.At at2) h timely = ((h.0.0, h.0.1, timely), h.1)
-    wait_suits at (next.TheVariants.End answer) h timely = (tt, tt)
+    wait_suits at (next.At at2) h timely = ((h.0.0, h.0.1, timely), h.1)
+    wait_suits at (next.End answer) h timely = (tt, tt)
 
   notify_suits : (all : Bool) (m : ℕ) (at : NotifyAt) (n : Next NotifyAt) → Suits locks kinds
       (Condvar c (Notify all m at)) → Suits locks kinds (condvar_goes c (in_notify all m n))
-  notify_suits all m at (next.TheVariants.At at2) h = h
-  notify_suits all m at (next.TheVariants.End answer) h = (tt, tt)
+  notify_suits all m at (next.At at2) h = h
+  notify_suits all m at (next.End answer) h = (tt, tt)
 
   -- a notification goes on with the mutex that it sees
   looks_suit : (all : Bool) (seen : ℕ) → Suits locks kinds (Condvar c (Look all))
@@ -281,8 +281,8 @@ module _ (locks : ℕ) (kinds : ℕ → Kind) (c : ℕ) where
       (sym none) (tt, tt)
   looks_suit all seen h (inr shown) = either (seen == 0)
     where
-      either : (b : Bool) → Suits locks kinds (condvar_goes c (if b then next.TheVariants.End (notified all 0)
-          else next.TheVariants.At (Notify all (mutex_shown seen) notify.Enter)))
+      either : (b : Bool) → Suits locks kinds (condvar_goes c (if b then next.End (notified all 0)
+          else next.At (Notify all (mutex_shown seen) notify.Enter)))
       either true = (tt, tt)
       either false = ((h.0.0, shown.0, tt), (h.1.0, shown.1))
 
@@ -323,37 +323,37 @@ next_suits locks kinds (Condvar l at) reply h r = condvar_suits locks kinds l at
 
 first_fits : (locks l : ℕ) (fair : Bool) (c : MutexCall) → l < locks
     → PlaceFits locks (Mutex l (mutex_first fair c))
-first_fits locks l fair mutex_call.TheVariants.Lock h = (h, tt)
-first_fits locks l fair mutex_call.TheVariants.LockTimed h = (h, tt)
-first_fits locks l fair mutex_call.TheVariants.TryLock h = (h, tt)
-first_fits locks l true mutex_call.TheVariants.Unlock h = (h, tt)
-first_fits locks l false mutex_call.TheVariants.Unlock h = (h, tt)
-first_fits locks l fair mutex_call.TheVariants.UnlockFair h = (h, tt)
-first_fits locks l fair mutex_call.TheVariants.Bump h = (h, tt)
+first_fits locks l fair mutex_call.Lock h = (h, tt)
+first_fits locks l fair mutex_call.LockTimed h = (h, tt)
+first_fits locks l fair mutex_call.TryLock h = (h, tt)
+first_fits locks l true mutex_call.Unlock h = (h, tt)
+first_fits locks l false mutex_call.Unlock h = (h, tt)
+first_fits locks l fair mutex_call.UnlockFair h = (h, tt)
+first_fits locks l fair mutex_call.Bump h = (h, tt)
 
-mutex_called : (k : Kind) (l : ℕ) (c : MutexCall) → has_call k (call.TheVariants.Mutex l c) ≡ true
+mutex_called : (k : Kind) (l : ℕ) (c : MutexCall) → has_call k (call.Mutex l c) ≡ true
     → (is_plain_mutex k || is_fair k) ≡ true
 mutex_called kinds.Mutex l c has = refl
 mutex_called kinds.Fair l c has = refl
 mutex_called k l c has = absurd cc
 
-rwlock_called : (k : Kind) (l : ℕ) (c : RwLockCall) → has_call k (call.TheVariants.RwLock l c) ≡ true
+rwlock_called : (k : Kind) (l : ℕ) (c : RwLockCall) → has_call k (call.RwLock l c) ≡ true
     → is_rwlock k ≡ true
 rwlock_called (kinds.RwLock limit) l c has = refl
 rwlock_called (kinds.Recursive limit) l c has = refl
 rwlock_called k l c has = absurd cc
 
-once_called : (k : Kind) (l : ℕ) (c : OnceCall) → has_call k (call.TheVariants.Once l c) ≡ true
+once_called : (k : Kind) (l : ℕ) (c : OnceCall) → has_call k (call.Once l c) ≡ true
     → is_once k ≡ true
 once_called kinds.Once l c has = refl
 once_called k l c has = absurd cc
 
-semaphore_called : (k : Kind) (l : ℕ) (c : SemaphoreCall) → has_call k (call.TheVariants.Semaphore l c) ≡ true
+semaphore_called : (k : Kind) (l : ℕ) (c : SemaphoreCall) → has_call k (call.Semaphore l c) ≡ true
     → is_semaphore k ≡ true
 semaphore_called (kinds.Semaphore permits) l c has = refl
 semaphore_called k l c has = absurd cc
 
-condvar_called : (k : Kind) (l : ℕ) (c : CondvarCall) → has_call k (call.TheVariants.Condvar l c) ≡ true
+condvar_called : (k : Kind) (l : ℕ) (c : CondvarCall) → has_call k (call.Condvar l c) ≡ true
     → is_condvar k ≡ true
 condvar_called kinds.Condvar l c has = refl
 condvar_called k l c has = absurd cc
@@ -372,15 +372,15 @@ call_suits w t c may =
     by_call : (c : Call) → lock_in c < length w.locks → has_call (kind_at w (lock_in c)) c ≡ true
         → names_mutex_there w (mutex_in c) ≡ true → Suits (length w.locks) (kind_at w)
         (first_place (kind_at w (lock_in c)) c)
-    by_call (call.TheVariants.Mutex l c) lt has m =
+    by_call (call.Mutex l c) lt has m =
         (first_fits (length w.locks) l (is_fair (kind_at w l)) c lt, mutex_called (kind_at w l) l c has)
-    by_call (call.TheVariants.RwLock l c) lt has m = (lt, rwlock_called (kind_at w l) l c has)
-    by_call (call.TheVariants.Once l c) lt has m = (lt, once_called (kind_at w l) l c has)
-    by_call (call.TheVariants.Semaphore l c) lt has m = (lt, semaphore_called (kind_at w l) l c has)
-    by_call (call.TheVariants.Condvar l (condvar_call.Wait m timed)) lt has there =
+    by_call (call.RwLock l c) lt has m = (lt, rwlock_called (kind_at w l) l c has)
+    by_call (call.Once l c) lt has m = (lt, once_called (kind_at w l) l c has)
+    by_call (call.Semaphore l c) lt has m = (lt, semaphore_called (kind_at w l) l c has)
+    by_call (call.Condvar l (condvar_call.Wait m timed)) lt has there =
         let of = both (nat_lt m (length w.locks)) (is_plain_mutex (kind_at w m)) there in (
           (lt, ltb-true m (length w.locks) of.0, tt),
           (condvar_called (kind_at w l) l (condvar_call.Wait m timed) has, of.1),
         )
-    by_call (call.TheVariants.Condvar l (condvar_call.Notify all)) lt has there =
+    by_call (call.Condvar l (condvar_call.Notify all)) lt has there =
         ((lt, tt, tt), (condvar_called (kind_at w l) l (condvar_call.Notify all) has, tt))

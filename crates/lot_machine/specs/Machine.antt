@@ -3,13 +3,13 @@ use Rattle.std.specs.Prelude.{ℕ, zero, suc, Bool, true, false, Option, Some, N
 use Rattle.std.specs.Prelude.{◌+◌, ◌%◌, ◌^◌, sum, ◌&&◌, ◌||◌, not, List, [], ◌∷◌, ◌++◌, map, length, take}
 use Rattle.std.specs.Prelude.{drop, replicate, nat_lt, is_some, is_none, slice_set, slice_index_or}
 use Rattle.core_base.specs.declared.keys.Keys.{Keys}
-use Rattle.core_base.specs.declared.keys.Keys as keys
+use Rattle.core_base.specs.declared.keys.Keys.TheVariants as keys
 use Rattle.core_base.specs.declared.ops.Op.{Op}
 use Rattle.core_base.specs.declared.wants.Waiter.{Waiter}
 use Rattle.core_base.specs.declared.wants.Want.{Want}
 use Rattle.core_base.specs.declared.wants.Want.TheVariants.{Exclusive, Upgradable, Shared, Wait, CallOnce}
 use Rattle.core_base.specs.declared.requeues.Requeue.{Requeue}
-use Rattle.core_base.specs.declared.requeues.Requeue as requeue
+use Rattle.core_base.specs.declared.requeues.Requeue.TheVariants as requeue
 use Rattle.core_base.specs.Words.{apply}
 use Rattle.core_base.specs.Lines.{waiter, line, without, first_of, threads_of}
 use Rattle.core_base.specs.Picks.{lock_picked, without_lock_picked}
@@ -19,7 +19,7 @@ use Rattle.spec_locks.specs.declared.kinds.Kind.{Kind}
 use Rattle.spec_locks.specs.declared.kinds.Kind.TheVariants.{Mutex}
 use Rattle.spec_locks.specs.declared.kinds.Kind.TheVariants as kinds
 use Rattle.steps_base.specs.declared.owners.Owners.{Owners}
-use Rattle.steps_base.specs.declared.owners.Fallback as fallback
+use Rattle.steps_base.specs.declared.owners.Fallback.TheVariants as fallback
 use Rattle.steps_base.specs.declared.owners.Phase.TheVariants as phases
 use Rattle.lot_steps.specs.declared.places.Place.{Place}
 use Rattle.lot_steps.specs.declared.places.Place.TheVariants.{Idle}
@@ -29,19 +29,19 @@ use Rattle.steps_base.specs.declared.acts.Act.TheVariants.{Remove, Leave, Sleep,
 use Rattle.steps_base.specs.declared.acts.Act.TheVariants as act
 use Rattle.steps_base.specs.declared.acts.Check.{Check}
 use Rattle.steps_base.specs.declared.acts.Wakes.{Wakes}
-use Rattle.steps_base.specs.declared.acts.Wakes as wakes
+use Rattle.steps_base.specs.declared.acts.Wakes.TheVariants as wakes
 use Rattle.steps_base.specs.declared.acts.Reply.{Reply}
 use Rattle.steps_base.specs.declared.acts.Reply.TheVariants.{Done, Value, Parked, Took, Picked, Requeued}
 use Rattle.steps_base.specs.declared.acts.Reply.TheVariants.{Removed, TakenBy, MovedTo, HandedBy, Late, Woken}
 use Rattle.steps_base.specs.declared.acts.Reply.TheVariants.{Closed}
 use Rattle.steps_base.specs.declared.acts.TakeWhich.{TakeWhich}
-use Rattle.steps_base.specs.declared.acts.TakeWhich as whom
+use Rattle.steps_base.specs.declared.acts.TakeWhich.TheVariants as whom
 use Rattle.spec_locks.specs.declared.calls.Call.{Call}
 use Rattle.spec_locks.specs.declared.calls.Turn.{Turn}
-use Rattle.spec_locks.specs.declared.calls.Turn as turn
+use Rattle.spec_locks.specs.declared.calls.Turn.TheVariants as turn
 use Rattle.spec_locks.specs.declared.calls.Step.{Step}
 use Rattle.spec_locks.specs.declared.outcomes.Outcome.{Outcome}
-use Rattle.spec_locks.specs.declared.outcomes.Outcome as outcome
+use Rattle.spec_locks.specs.declared.outcomes.Outcome.TheVariants as outcome
 use Rattle.spec_locks.specs.Kinds.{has_call, is_plain_mutex}
 use Rattle.steps_base.specs.Acts.{holds, takes_effect, outcome_of}
 use Rattle.steps_base.specs.Owners.{is_thread, with_exclusive}
@@ -171,14 +171,14 @@ abbrev pub section_is_free : State → ℕ → Bool
 section_is_free w key = is_none (section_at w key)
 
 abbrev pub are_free : State → Keys → Bool
-are_free w (keys.TheVariants.One key) = section_is_free w key
-are_free w (keys.TheVariants.Two first second) = section_is_free w first && section_is_free w second
+are_free w (keys.One key) = section_is_free w key
+are_free w (keys.Two first second) = section_is_free w first && section_is_free w second
 
 -- somebody is inside the sections now, or nobody
 abbrev pub state_with_sections : State → Keys → Option ℕ → State
-state_with_sections w (keys.TheVariants.One key) who =
+state_with_sections w (keys.One key) who =
     record w { sections = slice_set w.sections key who }
-state_with_sections w (keys.TheVariants.Two first second) who =
+state_with_sections w (keys.Two first second) who =
     record w { sections = slice_set (slice_set w.sections first who) second who }
 
 -- a thread leaves where it stands, and then stands after the last under a key
@@ -267,7 +267,7 @@ shares_given t (p ∷ ps) (n ∷ ns) = with_share (shares_in_hand t (held p)) n 
 
 abbrev pub owners_with_pending : ℕ → Owners → Owners
 owners_with_pending u owners = record owners
-    { pending = Some (record { thread = u; fallback = fallback.TheVariants.Nothing }) }
+    { pending = Some (record { thread = u; fallback = fallback.Nothing }) }
 
 -- a writer owns where nobody shares, and else is pending, with nothing to fall back to
 abbrev pub owners_of_successor : ℕ → Option Successor → Owners → Owners
@@ -330,16 +330,16 @@ state_after_takes w t key taken left =
     }
 
 abbrev pub state_after_take : State → ℕ → ℕ → TakeWhich → State
-state_after_take w t key whom.TheVariants.First = state_after_take_first w t key
-state_after_take w t key (whom.TheVariants.Picked start recursive) =
+state_after_take w t key whom.First = state_after_take_first w t key
+state_after_take w t key (whom.Picked start recursive) =
     state_after_takes w t key (threads_of (lock_picked start recursive (queue_at w key)))
     (without_lock_picked start recursive key (queue_at w key))
-state_after_take w t key whom.TheVariants.All =
+state_after_take w t key whom.All =
     state_after_takes w t key (threads_of (queue_at w key)) []
 
 -- the waiters left in a line after a requeue
 abbrev pub left_in_line : Requeue → List Waiter → List Waiter
-left_in_line requeue.TheVariants.One q = drop 1 q
+left_in_line requeue.One q = drop 1 q
 left_in_line how q = []
 
 -- a waiter that is moved stands after the last of the other line, and wants to own alone
@@ -348,9 +348,9 @@ moved_under key q = map (λ (x : Waiter). waiter key x.thread Exclusive) q
 
 -- the waiters that it moves, by the threads of the line
 abbrev pub moved_threads : Requeue → List ℕ → List ℕ
-moved_threads requeue.TheVariants.One us = take 1 us
-moved_threads requeue.TheVariants.All us = us
-moved_threads requeue.TheVariants.TakeOneMoveRest us = drop 1 us
+moved_threads requeue.One us = take 1 us
+moved_threads requeue.All us = us
+moved_threads requeue.TakeOneMoveRest us = drop 1 us
 
 abbrev pub queues_requeued : List (List Waiter) → ℕ → ℕ → Requeue → List (List Waiter)
 queues_requeued queues from to how =
@@ -370,8 +370,8 @@ state_after_requeue w t from to how = record w {
 }
 
 abbrev pub state_after_wake : State → ℕ → Wakes → State
-state_after_wake w t wakes.TheVariants.Nobody = w
-state_after_wake w t (wakes.TheVariants.All note) = state_after_telling w t (Woken note)
+state_after_wake w t wakes.Nobody = w
+state_after_wake w t (wakes.All note) = state_after_telling w t (Woken note)
 
 abbrev pub state_after_leave : State → ℕ → Keys → Wakes → State
 state_after_leave w t keys wakes = state_after_wake (state_with_sections w keys None) t wakes
@@ -401,13 +401,13 @@ state_after_act w t p act = w
 
 -- the outcome of a take
 abbrev pub reply_to_take : State → ℕ → ℕ → TakeWhich → Reply
-reply_to_take w t key whom.TheVariants.First =
+reply_to_take w t key whom.First =
     Took (is_there (first_of (queue_at w key))) (length (drop 1 (queue_at w key)) == 0)
-reply_to_take w t key (whom.TheVariants.Picked start recursive) =
-    let v = state_after_take w t key (whom.TheVariants.Picked start recursive) in
+reply_to_take w t key (whom.Picked start recursive) =
+    let v = state_after_take w t key (whom.Picked start recursive) in
     Picked (sharers_in_hand t v.places) (want_of_successor (successor_from t 0 v.places))
     (length (without_lock_picked start recursive key (queue_at w key)) == 0)
-reply_to_take w t key whom.TheVariants.All = Took (not (length (queue_at w key) == 0)) true
+reply_to_take w t key whom.All = Took (not (length (queue_at w key) == 0)) true
 
 -- What an act tells its thread.
 abbrev pub reply_to : State → ℕ → Act → Reply
@@ -499,7 +499,7 @@ state_after_look w t None = w
 state_after_look w t (Some p) = state_after_go (put w t p) t
 
 abbrev pub look_outcome : State → ℕ → Option Place → Outcome
-look_outcome w t None = outcome.TheVariants.NotNow
+look_outcome w t None = outcome.NotNow
 look_outcome w t (Some p) = go_outcome (put w t p) t
 
 abbrev pub state_after_spin : State → ℕ → State
@@ -519,7 +519,7 @@ can_be_late w t = is_free_under w (late_key (place_at w t))
 -- the thread enters that section
 abbrev pub state_after_late_under : State → ℕ → ℕ → State
 state_after_late_under w t key =
-    state_after_reply (state_with_sections w (keys.TheVariants.One key) (Some t)) t Late
+    state_after_reply (state_with_sections w (keys.One key) (Some t)) t Late
 
 abbrev pub state_after_late_on : State → ℕ → Option ℕ → State
 state_after_late_on w t None = w
@@ -530,27 +530,27 @@ state_after_late w t = state_after_late_on w t (late_key (place_at w t))
 
 -- whether a turn is possible for a thread that is there
 abbrev pub can_turn : State → ℕ → Turn → Bool
-can_turn w t (turn.TheVariants.Begin call) = can_begin w t call
-can_turn w t turn.TheVariants.Go = can_go w t
-can_turn w t turn.TheVariants.Spin = can_spin w t
-can_turn w t turn.TheVariants.Late = can_be_late w t
-can_turn w t turn.TheVariants.Ok = can_close w t true
-can_turn w t turn.TheVariants.Err = can_close w t false
+can_turn w t (turn.Begin call) = can_begin w t call
+can_turn w t turn.Go = can_go w t
+can_turn w t turn.Spin = can_spin w t
+can_turn w t turn.Late = can_be_late w t
+can_turn w t turn.Ok = can_close w t true
+can_turn w t turn.Err = can_close w t false
 
 abbrev pub state_after_turn : State → ℕ → Turn → State
-state_after_turn w t (turn.TheVariants.Begin call) = state_after_begin w t call
-state_after_turn w t turn.TheVariants.Go = state_after_go w t
-state_after_turn w t turn.TheVariants.Spin = state_after_spin w t
-state_after_turn w t turn.TheVariants.Late = state_after_late w t
-state_after_turn w t turn.TheVariants.Ok = state_after_close w t true
-state_after_turn w t turn.TheVariants.Err = state_after_close w t false
+state_after_turn w t (turn.Begin call) = state_after_begin w t call
+state_after_turn w t turn.Go = state_after_go w t
+state_after_turn w t turn.Spin = state_after_spin w t
+state_after_turn w t turn.Late = state_after_late w t
+state_after_turn w t turn.Ok = state_after_close w t true
+state_after_turn w t turn.Err = state_after_close w t false
 
 abbrev pub turn_outcome : State → ℕ → Turn → Outcome
-turn_outcome w t turn.TheVariants.Go = go_outcome w t
-turn_outcome w t turn.TheVariants.Spin = spin_outcome w t
-turn_outcome w t turn.TheVariants.Ok = close_outcome w t true
-turn_outcome w t turn.TheVariants.Err = close_outcome w t false
-turn_outcome w t _ = outcome.TheVariants.Step
+turn_outcome w t turn.Go = go_outcome w t
+turn_outcome w t turn.Spin = spin_outcome w t
+turn_outcome w t turn.Ok = close_outcome w t true
+turn_outcome w t turn.Err = close_outcome w t false
+turn_outcome w t _ = outcome.Step
 
 -- ---------------------------------------------------------------- steps and runs
 
@@ -564,7 +564,7 @@ after w s = if is_possible w s then state_after_turn w s.thread s.turn else w
 -- the outcome of a step
 abbrev pub step_outcome : State → Step → Outcome
 step_outcome w s = if is_possible w s then turn_outcome w s.thread s.turn
-    else outcome.TheVariants.NotNow
+    else outcome.NotNow
 
 -- the state after steps one after another, and what they answer
 abbrev pub after_steps : State → List Step → State
@@ -578,7 +578,7 @@ step_outcomes w (s ∷ ss) = step_outcome w s ∷ step_outcomes (after w s) ss
 -- ---------------------------------------------------------------- solo runs
 
 abbrev pub go_of : ℕ → Step
-go_of t = record { thread = t; turn = turn.TheVariants.Go }
+go_of t = record { thread = t; turn = turn.Go }
 
 -- where steps of a thread alone have led, and the last outcome that came of a possible one
 pub record SoloEnd : Type 0 where
@@ -587,8 +587,8 @@ pub record SoloEnd : Type 0 where
 
 -- the outcome of one more step: none was possible, the thread goes on, or it rests
 abbrev pub alone_after : Outcome → State → State → Outcome → SoloEnd → SoloEnd
-alone_after outcome.TheVariants.NotNow w v last more = record { state = w; outcome = last }
-alone_after outcome.TheVariants.Step w v last more = more
+alone_after outcome.NotNow w v last more = record { state = w; outcome = last }
+alone_after outcome.Step w v last more = more
 alone_after rests w v last more = record { state = v; outcome = rests }
 
 -- at most n steps of a thread alone, until its call ends, sleeps or is in its closure, or until
@@ -596,4 +596,4 @@ alone_after rests w v last more = record { state = v; outcome = rests }
 unfoldable pub solo : ℕ → State → ℕ → Outcome → SoloEnd
 solo zero w t last = record { state = w; outcome = last }
 solo (suc n) w t last = alone_after (step_outcome w (go_of t)) w (after w (go_of t)) last
-    (solo n (after w (go_of t)) t outcome.TheVariants.Step)
+    (solo n (after w (go_of t)) t outcome.Step)

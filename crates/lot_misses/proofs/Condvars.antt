@@ -258,9 +258,9 @@ module _ (l : ℕ) where
     set_befell seen (Woken n) h = refl
     set_befell seen r h = absurd h
 
-    sets : (seen : ℕ) → is_locked seen ≡ true → HasLooked (condvar_table l) (Notify all m (notify.Set seen))
+    bit_pending : (seen : ℕ) → is_locked seen ≡ true → HasLooked (condvar_table l) (Notify all m (notify.Set seen))
         (Notify all m notify.Mark)
-    sets seen f = record {
+    bit_pending seen f = record {
       lock = m;
       from = seen;
       to = 3;
@@ -339,7 +339,7 @@ module _ (l : ℕ) where
     notifies notify.Again sane = never (condvar_table l) (Notify all m notify.Again) looks_again
     notifies notify.Hide sane = never (condvar_table l) (Notify all m notify.Hide) hides_it
     notifies notify.Mark sane = record { acts = λ v of. marks_then v; others = marked }
-    notifies (notify.Set seen) sane = sets seen sane
+    notifies (notify.Set seen) sane = bit_pending seen sane
     notifies (notify.Move locked) sane = never (condvar_table l) (Notify all m (notify.Move locked))
         (moves locked)
     notifies (notify.Clear any) sane = never (condvar_table l) (Notify all m (notify.Clear any)) (clears any)

@@ -15,7 +15,7 @@ use Rattle.lot_machine.specs.Machine.{go_of, is_possible}
 use Rattle.lot_machine.specs.Machine.{opening, place_at}
 use Rattle.lot_machine.specs.Machine.{step_outcome}
 use Rattle.lot_laws.specs.SitesOf.{IsWorld}
-use Rattle.lot_laws.proofs.alone.WorldRuns.{world_after}
+use Rattle.lot_laws.proofs.promises.WorldRuns.{world_after}
 use Rattle.lot_misses.specs.Looks.{FollowedBy, GoesWithoutMiss, LooksAtOnce, LooksFor, LooksForExchanges}
 use Rattle.lot_misses.specs.Looks.{NoMissIsNeeded, before_looks, looked_from}
 use Rattle.lot_misses.specs.Looks.{news, news_of, or_here, unlooked}

@@ -53,7 +53,7 @@ use Rattle.lot_machine.specs.Machine.{state_after_spin, state_after_turn, state_
 use Rattle.lot_machine.specs.Machine.{spin_outcome, step_outcome, turn_outcome, word_at}
 use Rattle.lot_machine.proofs.Closures.{RunsOne, runs_one}
 use Rattle.lot_laws.specs.SitesOf.{FitsItsLock, IsWorld}
-use Rattle.lot_laws.proofs.alone.WorldRuns.{world_after}
+use Rattle.lot_laws.proofs.promises.WorldRuns.{world_after}
 use Rattle.lot_misses.specs.Looks.{LooksFor}
 use Rattle.lot_misses.specs.Looks.{MayBeAt, looked_from, looks, looks_by}
 use Rattle.lot_misses.specs.Looks.{misses}

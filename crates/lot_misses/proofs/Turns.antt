@@ -305,7 +305,7 @@ module _ (k : ℕ → Bool) (w : State) (t : ℕ) (p q : Place) (off : k t ≡ f
       (look_goes k (put w t q) t q h.lock off (set_sane k w.places t q all (λ e. h.sound)) noted
       (rw (length-set w.places t q) there) (there_now w t q there) h.unlooked h.load sane plain (h.leads v))
 
-  -- ---------------------------------------------------------------- it misses
+  -- ---------------------------------------------------------------- the exchange misses
 
   module _ (other : (v == h.from) ≡ false) where
     hands_nothing : state_after_act w t p (act.HandOver h.lock exchange) ≡ state_after_operation w t p h.lock
@@ -361,7 +361,7 @@ module _ (k : ℕ → Bool) (w : State) (t : ℕ) (p q : Place) (off : k t ≡ f
         (before k (state_after_go w t)) t (go_outcome w t) (go_outcome (put w t q) t) refl
         (ap (before k) (sym missed_leads)) (sym missed_tells) (looks_again sane plain)
 
-  -- ---------------------------------------------------------------- it succeeds
+  -- ---------------------------------------------------------------- the exchange succeeds
 
   module _ (sane : IsSane p) (own : place_at (state_after_act w t p (act_of p)) t ≡ p) (same : (v == h.from)
       ≡ true) where
@@ -404,7 +404,7 @@ module _ (k : ℕ → Bool) (w : State) (t : ℕ) (p q : Place) (off : k t ≡ f
     after_first : after (before k w) (go_of t) ≡ x
     after_first = rw first_possible first_leads
 
-    -- ---------------------------------------------------------------- then it exchanges
+    -- ---------------------------------------------------------------- the exchange
 
     x_place : place_at x t ≡ p
     x_place = there_now (before k w) t p there_too
@@ -554,7 +554,7 @@ module _ (k : ℕ → Bool) (w : State) (t : ℕ) (p q : Place) (off : k t ≡ f
     first_outcome : step_outcome (before k w) (go_of t) ≡ outcome.Step
     first_outcome = rw first_possible first_tells
 
-    -- it has not decided where it looks
+    -- a thread has not decided where it looks
     is_look : has_decided q ≡ false → looks (before k w) (go_of t) ≡ true
     is_look undecided = ap (λ y. looks_by (before k w) y (act_of y)) here
         ∙ ap (looks_by (before k w) q) h.load

@@ -29,8 +29,8 @@ use Rattle.lot_machine.specs.Machine.{going_outcome, place_at, put, reply_to, st
 use Rattle.lot_machine.specs.Machine.{state_after_going, word_at}
 use Rattle.lot_machine.proofs.Closures.{IsOwn, call_own}
 use Rattle.lot_laws.specs.SitesOf.{FitsItsLock, IsInductive, IsWorld, rules_in, site_of}
-use Rattle.lot_laws.proofs.alone.RwLock.{word_small}
-use Rattle.lot_laws.proofs.alone.WorldRuns.{world_after}
+use Rattle.lot_laws.proofs.rwlock.Words.{word_small}
+use Rattle.lot_laws.proofs.promises.WorldRuns.{world_after}
 use Rattle.lot_laws.proofs.calls.OwnPlace.{stays_there}
 use Rattle.lot_laws.proofs.condvar.OwnStand.{IsStill, own_place}
 use Rattle.lot_laws.proofs.machine.Parts.{IsOfTwo, fits_two, single_or_two}

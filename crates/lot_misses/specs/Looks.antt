@@ -302,7 +302,7 @@ pub record News : Type 0 where
   pub thread : ℕ
   pub outcome : Outcome
 
--- but for a step that was no turn, or after which its thread goes on
+-- all steps but one that was no turn, or after which its thread goes on
 abbrev pub news_of : ℕ → Outcome → List News
 news_of t outcome.NotNow = []
 news_of t outcome.Step = []

@@ -9,7 +9,7 @@ use Rattle.spec_locks.specs.declared.outcomes.Outcome.{Outcome}
 use Rattle.spec_locks.specs.declared.outcomes.Outcome.TheVariants as outcome
 use Rattle.lot_machine.specs.Machine.{State, after, after_steps, place_at, step_outcome}
 use Rattle.lot_laws.specs.SitesOf.{IsWorld}
-use Rattle.lot_laws.proofs.alone.AloneSteps.{after_stuck}
+use Rattle.lot_laws.proofs.machine.Stuck.{after_stuck}
 use Rattle.lot_laws.proofs.promises.Overtaken.{world_steps}
 use Rattle.state_search.proofs.Lists.{none_some, some_same}
 use Rattle.lot_program.specs.declared.grains.Grain.{Grain}

@@ -13,7 +13,7 @@ use Rattle.steps_base.specs.Acts.{outcome_of}
 use Rattle.lot_steps.specs.Steps.{HasKeys, act_of}
 use Rattle.lot_laws.specs.Refinement.{sleeps}
 use Rattle.lot_laws.specs.SitesOf.{IsWorld}
-use Rattle.lot_laws.proofs.alone.WorldRuns.{world_after}
+use Rattle.lot_laws.proofs.promises.WorldRuns.{world_after}
 use Rattle.lot_machine.specs.Machine.{State, after, after_steps, place_at, runs_closure, step_outcome}
 use Rattle.lot_machine.specs.Fits.{SameSize}
 use Rattle.lot_machine.proofs.Shape.{after_size, has_keys, size_more}

@@ -31,7 +31,7 @@ go_steps g zero t w = []
 go_steps g (suc n) t w =
     if turn_ends g w t then [] else step_of t turn.Go ∷ go_steps g n t (after w (step_of t turn.Go))
 
--- those in which it goes alone till its turn ends, perhaps after one more
+-- moves in which a thread goes alone till its turn ends, perhaps after one more
 abbrev pub again_steps : Bool → Grain → ℕ → State → List Step
 again_steps true g t w = step_of t turn.Go ∷ go_steps g 64 t (after w (step_of t turn.Go))
 again_steps false g t w = go_steps g 64 t w

@@ -8,7 +8,7 @@ use Rattle.lot_machine.specs.Machine.{State, after_steps, opening}
 use Rattle.lot_text.specs.Lines.{line_len}
 use Rattle.lot_text.specs.Grammar.{meaning}
 use Rattle.lot_text.specs.declared.grammar.Command.{Command}
-use Rattle.lot_text.specs.declared.grammar.Command as command
+use Rattle.lot_text.specs.declared.grammar.Command.TheVariants as command
 use Rattle.lot_replay.specs.declared.actions.Action.{Action}
 use Rattle.lot_world.specs.Drainable.{is_drainable}
 use Rattle.lot_world.specs.Schedules.{schedule_of}
@@ -62,14 +62,14 @@ drains_on false names w next t done some e = runs_on names w next done some
 
 plays_on : (names : List (List ℕ)) (w : State) (c : Command) (next : ReplayStage) (t : List ℕ)
     (done : List (List ℕ)) → 1 ≤ length done → played names w c ≡ Some (next, t) → StillDeclares next done
-plays_on names w (command.TheVariants.Turn u turn) next t done some e =
+plays_on names w (command.Turn u turn) next t done some e =
     acts_on names w u (action_of names w turn) next t done some e
-plays_on names w command.TheVariants.Show next t done some e = runs_on names w next done some
+plays_on names w command.Show next t done some e = runs_on names w next done some
     (same_stage (running names w) next _ t e)
-plays_on names w command.TheVariants.Drain next t done some e = drains_on (is_drainable w) names w next t done
+plays_on names w command.Drain next t done some e = drains_on (is_drainable w) names w next t done
     some e
-plays_on names w (command.TheVariants.Threads n) next t done some e = absurd (none_some next t e)
-plays_on names w (command.TheVariants.Lock name kind) next t done some e = absurd (none_some next t e)
+plays_on names w (command.Threads n) next t done some e = absurd (none_some next t e)
+plays_on names w (command.Lock name kind) next t done some e = absurd (none_some next t e)
 
 one_more : (done : List (List ℕ)) (line : List ℕ) → 1 ≤ length (done ++ line ∷ [])
 one_more done line = omega (arith, length-append done (line ∷ []))
@@ -83,27 +83,27 @@ declares_on threads names kinds next line done e h d = subst (λ s. StillDeclare
 obeys_on : (s : ReplayStage) (c : Command) (next : ReplayStage) (t line : List ℕ) (done : List (List ℕ))
     → meaning line ≡ Some c → obeyed s c ≡ Some (next, t) → StillDeclares s done
     → StillDeclares next (done ++ line ∷ [])
-obeys_on nothing (command.TheVariants.Threads n) next t line done m e h = declares_on n [] [] next line done
+obeys_on nothing (command.Threads n) next t line done m e h = declares_on n [] [] next line done
     (chosen (nat_le 1 n && nat_le n 1024) (declaring n [] []) next [] t e)
     (subst (All Declares) (sym h) (All-nil Declares)) (ap is_declaration m)
-obeys_on nothing (command.TheVariants.Lock name kind) next t line done m e h = absurd (none_some next t e)
-obeys_on nothing (command.TheVariants.Turn u turn) next t line done m e h = absurd (none_some next t e)
-obeys_on nothing command.TheVariants.Show next t line done m e h = absurd (none_some next t e)
-obeys_on nothing command.TheVariants.Drain next t line done m e h = absurd (none_some next t e)
-obeys_on (declaring threads names kinds) (command.TheVariants.Lock name kind) next t line done m e h =
+obeys_on nothing (command.Lock name kind) next t line done m e h = absurd (none_some next t e)
+obeys_on nothing (command.Turn u turn) next t line done m e h = absurd (none_some next t e)
+obeys_on nothing command.Show next t line done m e h = absurd (none_some next t e)
+obeys_on nothing command.Drain next t line done m e h = absurd (none_some next t e)
+obeys_on (declaring threads names kinds) (command.Lock name kind) next t line done m e h =
     declares_on threads (names ++ name ∷ []) (kinds ++ kind ∷ []) next line done
     (chosen (may_declare threads names kind name) (declaring threads (names ++ name ∷ []) (kinds ++ kind
     ∷ [])) next [] t e) h.0 (ap is_declaration m)
-obeys_on (declaring threads names kinds) (command.TheVariants.Threads n) next t line done m e h =
+obeys_on (declaring threads names kinds) (command.Threads n) next t line done m e h =
     absurd (none_some next t e)
-obeys_on (declaring threads names kinds) (command.TheVariants.Turn u turn) next t line done m e h =
-    plays_on names (opening kinds threads) (command.TheVariants.Turn u turn) next t (done ++ line ∷ [])
+obeys_on (declaring threads names kinds) (command.Turn u turn) next t line done m e h =
+    plays_on names (opening kinds threads) (command.Turn u turn) next t (done ++ line ∷ [])
     (one_more done line) e
-obeys_on (declaring threads names kinds) command.TheVariants.Show next t line done m e h =
-    plays_on names (opening kinds threads) command.TheVariants.Show next t (done ++ line ∷ [])
+obeys_on (declaring threads names kinds) command.Show next t line done m e h =
+    plays_on names (opening kinds threads) command.Show next t (done ++ line ∷ [])
     (one_more done line) e
-obeys_on (declaring threads names kinds) command.TheVariants.Drain next t line done m e h =
-    plays_on names (opening kinds threads) command.TheVariants.Drain next t (done ++ line ∷ [])
+obeys_on (declaring threads names kinds) command.Drain next t line done m e h =
+    plays_on names (opening kinds threads) command.Drain next t (done ++ line ∷ [])
     (one_more done line) e
 obeys_on (running names w) c next t line done m e h = plays_on names w c next t (done ++ line ∷ [])
     (one_more done line) e

@@ -3,7 +3,7 @@ use Rattle.std.proofs.Common.{ℕ, Option, Some, None, List, length, cond, inl, 
 use Rattle.std.specs.Prelude.{option_and_then}
 use Rattle.std.proofs.lemmas.Bool.Decides.{leb_tells}
 use Rattle.lot_machine.specs.Machine.{State}
-use Rattle.lot_text.specs.declared.grammar.Command as command
+use Rattle.lot_text.specs.declared.grammar.Command.TheVariants as command
 use Rattle.lot_text.specs.declared.grammar.NamedTurn.{NamedTurn}
 use Rattle.core_base.specs.declared.queues.Queues.{Ghosts}
 use Rattle.lot_replay.specs.declared.session.Session.{Session}
@@ -15,19 +15,19 @@ use Rattle.lot_text.specs.Turns.{named_turn, IsTurn}
 use Rattle.lot_text.specs.declared.turns.PlainTurn.{PlainTurn}
 
 pub turn_obeyed : {Q : Type 0} {queues : Ghosts Q} (s : Session Q queues) (t : ℕ) (turn : NamedTurn)
-    → obeyed (session_stage s) (command.TheVariants.Turn t turn) ≡ played s.names (session_world s)
-    (command.TheVariants.Turn t turn)
+    → obeyed (session_stage s) (command.Turn t turn) ≡ played s.names (session_world s)
+    (command.Turn t turn)
 turn_obeyed s t turn = by_world s.world
   where
     by_world : (o : Option State) → obeyed (stage_with s.threads s.names s.kinds.items o)
-        (command.TheVariants.Turn t turn) ≡ played s.names (world_with s.threads s.kinds.items o)
-        (command.TheVariants.Turn t turn)
+        (command.Turn t turn) ≡ played s.names (world_with s.threads s.kinds.items o)
+        (command.Turn t turn)
     by_world None = refl
     by_world (Some w) = refl
 
 -- the line of a plain turn leads where the turn leads
 pub turn_after : (stage : ReplayStage) (line : List ℕ) (t : ℕ) (turn : PlainTurn) → IsTurn line t turn
-    → after_line stage line ≡ obeyed stage (command.TheVariants.Turn t (named_turn turn))
+    → after_line stage line ≡ obeyed stage (command.Turn t (named_turn turn))
 turn_after stage line t turn h = elim (leb_tells (length line) line_len) [
   | inl fits ↦ ap (λ b. cond b (option_and_then (obeyed stage) (meaning line)) None) fits.0
       ∙ ap (option_and_then (obeyed stage)) h.1

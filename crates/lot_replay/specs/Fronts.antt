@@ -26,13 +26,13 @@ TakesLines None new lines = ⊤
 TakesLines (Some xs) None lines = ⊥
 TakesLines (Some xs) (Some ys) lines = lines_of xs ≡ lines ++ lines_of ys
 
--- this many lines at the front of a text were answered
+-- a number of lines at the front of a text were answered
 abbrev pub AnswersFront : List ℕ → List ℕ → ℕ → ReplayStage → ReplayStage → (List ℕ → Type 0) → Type 0
 AnswersFront text left number old new Wrote = (lines : List (List ℕ)) × (told : List ℕ)
     × BeginsWithLines text lines left × (number ≡ length lines)
     × MayAnswerAll old lines new told × Wrote told
 
--- this many lines were taken from known bytes, and answered
+-- a number of lines were taken from known bytes, and answered
 abbrev pub AnswersRead : Option (List ℕ) → Option (List ℕ) → ℕ → ReplayStage → ReplayStage
     → (List ℕ → Type 0) → Type 0
 AnswersRead before after number old new Wrote = (lines : List (List ℕ)) × (told : List ℕ)

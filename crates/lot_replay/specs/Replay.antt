@@ -7,7 +7,7 @@ use Rattle.lot_text.specs.Lines.{lines_of}
 use Rattle.lot_text.specs.Reads.{IsOneLine}
 use Rattle.lot_text.specs.Grammar.{meaning}
 use Rattle.lot_text.specs.declared.grammar.Command.{Command}
-use Rattle.lot_text.specs.declared.grammar.Command as command
+use Rattle.lot_text.specs.declared.grammar.Command.TheVariants as command
 use Rattle.lot_text.specs.Text.{malformed_line, no_memory_line}
 use Rattle.lot_replay.specs.Stages.{ReplayStage, nothing, after_line}
 use Rattle.lot_replay.specs.Answers.{is_drain}
@@ -42,8 +42,8 @@ IsText input text status = LinesWrite (lines_of input) text status
 
 -- a line says how many threads there are, or declares a lock
 abbrev pub is_declaration : Option Command → Bool
-is_declaration (Some (command.TheVariants.Threads threads)) = true
-is_declaration (Some (command.TheVariants.Lock name kind)) = true
+is_declaration (Some (command.Threads threads)) = true
+is_declaration (Some (command.Lock name kind)) = true
 is_declaration _ = false
 
 abbrev pub Declares : List ℕ → Type 0

@@ -3,27 +3,27 @@ use Rattle.std.specs.Prelude.{ℕ, ◌+◌, ◌*◌, List, [], ◌∷◌, ◌++�
 use Rattle.std.specs.List.{join_by}
 use Rattle.core_base.specs.declared.wants.Waiter.{Waiter}
 use Rattle.core_base.specs.declared.wants.Want.{Want}
-use Rattle.core_base.specs.declared.wants.Want as want
+use Rattle.core_base.specs.declared.wants.Want.TheVariants as want
 use Rattle.steps_base.specs.declared.owners.Owner.{Owner}
-use Rattle.steps_base.specs.declared.owners.Owner as owner
+use Rattle.steps_base.specs.declared.owners.Owner.TheVariants as owner
 use Rattle.lot_machine.specs.declared.debts.Debt.{Debt}
 use Rattle.lot_machine.specs.declared.debts.Debt.TheVariants.{Owes, Retries}
 use Rattle.lot_machine.specs.Machine.{State, word_at, queue_at}
 use Rattle.lot_machine.specs.Views.{owners_of, debtors}
 
 abbrev pub owner_letter : Owner → List ℕ
-owner_letter owner.TheVariants.Exclusive = codes "x"
-owner_letter owner.TheVariants.Pending = codes "p"
-owner_letter owner.TheVariants.Upgradable = codes "u"
-owner_letter owner.TheVariants.Running = codes "r"
-owner_letter owner.TheVariants.Shared = codes "s"
+owner_letter owner.Exclusive = codes "x"
+owner_letter owner.Pending = codes "p"
+owner_letter owner.Upgradable = codes "u"
+owner_letter owner.Running = codes "r"
+owner_letter owner.Shared = codes "s"
 
 abbrev pub want_letter : Want → List ℕ
-want_letter want.TheVariants.Exclusive = codes "x"
-want_letter want.TheVariants.Upgradable = codes "u"
-want_letter want.TheVariants.Shared = codes "s"
-want_letter want.TheVariants.Wait = codes "w"
-want_letter want.TheVariants.CallOnce = codes "c"
+want_letter want.Exclusive = codes "x"
+want_letter want.Upgradable = codes "u"
+want_letter want.Shared = codes "s"
+want_letter want.Wait = codes "w"
+want_letter want.CallOnce = codes "c"
 
 abbrev pub owner_text : Owner × ℕ → List ℕ
 owner_text o = decimal o.1 ++ owner_letter o.0

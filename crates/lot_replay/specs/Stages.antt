@@ -5,12 +5,12 @@ use Rattle.spec_locks.specs.declared.kinds.Kind.{Kind}
 use Rattle.lot_text.specs.declared.grammar.NamedCall.{NamedCall}
 use Rattle.lot_text.specs.declared.grammar.NamedCall.TheVariants as calling
 use Rattle.spec_locks.specs.declared.calls.Call.{Call}
-use Rattle.spec_locks.specs.declared.calls.Call as calls
+use Rattle.spec_locks.specs.declared.calls.Call.TheVariants as calls
 use Rattle.spec_locks.specs.declared.calls.Turn.{Turn}
-use Rattle.spec_locks.specs.declared.calls.Turn as turns
+use Rattle.spec_locks.specs.declared.calls.Turn.TheVariants as turns
 use Rattle.spec_locks.specs.declared.calls.Step.{Step}
 use Rattle.spec_locks.specs.declared.outcomes.Outcome.{Outcome}
-use Rattle.spec_locks.specs.declared.outcomes.Outcome as outcome
+use Rattle.spec_locks.specs.declared.outcomes.Outcome.TheVariants as outcome
 use Rattle.spec_locks.specs.declared.calls.CondvarCall.TheVariants as condvar
 use Rattle.spec_locks.specs.declared.calls.OnceCall.{OnceCall}
 use Rattle.spec_locks.specs.declared.calls.OnceCall.TheVariants.{CallOnce, Wait, WaitTimed}
@@ -20,9 +20,9 @@ use Rattle.lot_machine.specs.Machine.{solo}
 use Rattle.lot_world.specs.Drainable.{is_drainable}
 use Rattle.lot_world.specs.Schedules.{schedule_of}
 use Rattle.lot_text.specs.declared.grammar.Command.{Command}
-use Rattle.lot_text.specs.declared.grammar.Command as command
+use Rattle.lot_text.specs.declared.grammar.Command.TheVariants as command
 use Rattle.lot_text.specs.declared.grammar.NamedTurn.{NamedTurn}
-use Rattle.lot_text.specs.declared.grammar.NamedTurn as named
+use Rattle.lot_text.specs.declared.grammar.NamedTurn.TheVariants as named
 use Rattle.lot_text.specs.Lines.{line_len}
 use Rattle.lot_text.specs.LockNames.{lock_named}
 use Rattle.lot_text.specs.Grammar.{meaning}
@@ -31,7 +31,7 @@ use Rattle.lot_replay.specs.Drains.{drain_lines}
 use Rattle.lot_text.specs.Steps.{drain_refused_line}
 use Rattle.lot_text.specs.Text.{turn_line}
 use Rattle.lot_replay.specs.declared.actions.Action.{Action}
-use Rattle.lot_replay.specs.declared.actions.Action as actions
+use Rattle.lot_replay.specs.declared.actions.Action.TheVariants as actions
 
 -- nothing yet; so many threads, and locks of these names and kinds; or a world of locks of these
 -- names
@@ -50,18 +50,18 @@ is_bare_wait (Wait true) = false
 is_bare_wait (CallOnce forced) = false
 
 abbrev pub wait_with : ℕ → Bool → ℕ → Call
-wait_with lock timed mutex = calls.TheVariants.Condvar lock (condvar.Wait mutex timed)
+wait_with lock timed mutex = calls.Condvar lock (condvar.Wait mutex timed)
 
 -- the call of a lock of this kind: a wait names a mutex exactly where the lock is a condition
 -- variable
 abbrev pub call_of_kind : List (List ℕ) → Kind → NamedCall → ℕ → Option Call
-call_of_kind names kind (calling.Mutex call) lock = Some (calls.TheVariants.Mutex lock call)
-call_of_kind names kind (calling.RwLock call) lock = Some (calls.TheVariants.RwLock lock call)
+call_of_kind names kind (calling.Mutex call) lock = Some (calls.Mutex lock call)
+call_of_kind names kind (calling.RwLock call) lock = Some (calls.RwLock lock call)
 call_of_kind names kind (calling.Once call) lock =
-    if is_condvar kind && is_bare_wait call then None else Some (calls.TheVariants.Once lock call)
-call_of_kind names kind (calling.Semaphore call) lock = Some (calls.TheVariants.Semaphore lock call)
+    if is_condvar kind && is_bare_wait call then None else Some (calls.Once lock call)
+call_of_kind names kind (calling.Semaphore call) lock = Some (calls.Semaphore lock call)
 call_of_kind names kind (calling.Notify all) lock =
-    Some (calls.TheVariants.Condvar lock (condvar.Notify all))
+    Some (calls.Condvar lock (condvar.Notify all))
 call_of_kind names kind (calling.Wait mutex timed) lock =
     if is_condvar kind then option_map (wait_with lock timed) (lock_named names mutex) else None
 
@@ -71,17 +71,17 @@ call_named names w call name =
     option_and_then (λ lock. call_of_kind names (kind_at w lock) call lock) (lock_named names name)
 
 abbrev pub action_of : List (List ℕ) → State → NamedTurn → Option Action
-action_of names w (named.TheVariants.Begin call name) =
-    option_map (λ called. actions.TheVariants.Turn (turns.TheVariants.Begin called))
+action_of names w (named.Begin call name) =
+    option_map (λ called. actions.Turn (turns.Begin called))
     (call_named names w call name)
-action_of names w named.TheVariants.Go = Some (actions.TheVariants.Turn turns.TheVariants.Go)
-action_of names w named.TheVariants.Spin = Some (actions.TheVariants.Turn turns.TheVariants.Spin)
-action_of names w named.TheVariants.Late = Some (actions.TheVariants.Turn turns.TheVariants.Late)
-action_of names w named.TheVariants.Ok = Some (actions.TheVariants.Turn turns.TheVariants.Ok)
-action_of names w named.TheVariants.Err = Some (actions.TheVariants.Turn turns.TheVariants.Err)
-action_of names w named.TheVariants.Solo = Some actions.TheVariants.Solo
-action_of names w (named.TheVariants.Do call name) =
-    option_map actions.TheVariants.Do (call_named names w call name)
+action_of names w named.Go = Some (actions.Turn turns.Go)
+action_of names w named.Spin = Some (actions.Turn turns.Spin)
+action_of names w named.Late = Some (actions.Turn turns.Late)
+action_of names w named.Ok = Some (actions.Turn turns.Ok)
+action_of names w named.Err = Some (actions.Turn turns.Err)
+action_of names w named.Solo = Some actions.Solo
+action_of names w (named.Do call name) =
+    option_map actions.Do (call_named names w call name)
 
 -- the action of a turn at a stage
 abbrev pub action_at : ReplayStage → NamedTurn → Option Action
@@ -96,18 +96,18 @@ step_told w t turn =
 
 -- at most 64 steps of a thread alone
 abbrev pub went_alone : State → ℕ → State × Outcome
-went_alone w t = let a = solo 64 w t outcome.TheVariants.NotNow in (a.state, a.outcome)
+went_alone w t = let a = solo 64 w t outcome.NotNow in (a.state, a.outcome)
 
 -- a thread begins a call, and where that was possible goes on alone
 abbrev pub did : State → ℕ → Call → State × Outcome
 did w t call =
-    let s : Step = record { thread = t; turn = turns.TheVariants.Begin call } in
-    if is_possible w s then went_alone (after w s) t else (w, outcome.TheVariants.NotNow)
+    let s : Step = record { thread = t; turn = turns.Begin call } in
+    if is_possible w s then went_alone (after w s) t else (w, outcome.NotNow)
 
 abbrev pub done_by : State → ℕ → Action → State × Outcome
-done_by w t (actions.TheVariants.Turn turn) = step_told w t turn
-done_by w t actions.TheVariants.Solo = went_alone w t
-done_by w t (actions.TheVariants.Do call) = did w t call
+done_by w t (actions.Turn turn) = step_told w t turn
+done_by w t actions.Solo = went_alone w t
+done_by w t (actions.Do call) = did w t call
 
 -- ---------------------------------------------------------------- lines
 
@@ -125,10 +125,10 @@ drained names w =
 
 -- the effect of a turn, a `show` or a `drain` in a world, or none where it names no lock or is none of these
 abbrev pub played : List (List ℕ) → State → Command → Option (ReplayStage × List ℕ)
-played names w (command.TheVariants.Turn t turn) =
+played names w (command.Turn t turn) =
     option_map (acted names w t) (action_of names w turn)
-played names w command.TheVariants.Show = Some (running names w, show_lines w 0 names)
-played names w command.TheVariants.Drain = Some (drained names w)
+played names w command.Show = Some (running names w, show_lines w 0 names)
+played names w command.Drain = Some (drained names w)
 played names w _ = None
 
 -- the locks are fewer than 256, the kind fits the threads, and the name is new
@@ -138,10 +138,10 @@ may_declare threads names kind name =
 
 -- the stage and the text after a line with a meaning, or none where the line may not stand there
 abbrev pub obeyed : ReplayStage → Command → Option (ReplayStage × List ℕ)
-obeyed nothing (command.TheVariants.Threads threads) =
+obeyed nothing (command.Threads threads) =
     if nat_le 1 threads && nat_le threads 1024 then Some (declaring threads [] [], []) else None
 obeyed nothing _ = None
-obeyed (declaring threads names kinds) (command.TheVariants.Lock name kind) =
+obeyed (declaring threads names kinds) (command.Lock name kind) =
     if may_declare threads names kind name
     then Some (declaring threads (names ++ name ∷ []) (kinds ++ kind ∷ []), []) else None
 obeyed (declaring threads names kinds) command = played names (opening kinds threads) command

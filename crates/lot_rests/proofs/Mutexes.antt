@@ -73,8 +73,8 @@ module _ (w : State) (t l : ℕ) (sort : (rules_of (kind_at w l)).sort ≡ locks
 
   -- ---------------------------------------------------------------- by the value seen last
 
-  sets : (word == 1) ≡ true → SetsBit w (act.Word l (Exchange 1 3))
-  sets is = record {
+  bit_pending : (word == 1) ≡ true → SetsBit w (act.Word l (Exchange 1 3))
+  bit_pending is = record {
     lock = l;
     op = Exchange 1 3;
     is = refl;
@@ -94,7 +94,7 @@ module _ (w : State) (t l : ℕ) (sort : (rules_of (kind_at w l)).sort ≡ locks
           then At (lock.Decide 3) else End (entered e))))
       by_word false locked is = nears 4 4 (loads (word == 3)) (lock_ways word (lock.Decide word))
           (omega arith) (exchange_fails 1 3 word is) looked_now
-      by_word true true is = inr (omega arith, inl (sets is))
+      by_word true true is = inr (omega arith, inl (bit_pending is))
       by_word true false is = inl (omega arith)
 
   -- the thread tries to own the mutex

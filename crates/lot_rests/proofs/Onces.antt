@@ -147,9 +147,9 @@ module _ (w : State) (t l : ℕ) (sort : (rules_of (kind_at w l)).sort ≡ locks
       → Comes c again a false false k
   lost c again a still k = looked_row c again a still k
 
-  sets : (c : OnceCall) (seen : ℕ) → (word == seen) ≡ true → course_of c seen ≡ Marks
+  bit_pending : (c : OnceCall) (seen : ℕ) → (word == seen) ≡ true → course_of c seen ≡ Marks
       → SetsBit w (act.Word l (Exchange seen (marked seen)))
-  sets c seen is told = record {
+  bit_pending c seen is told = record {
     lock = l;
     op = Exchange seen (marked seen);
     is = refl;
@@ -169,7 +169,7 @@ module _ (w : State) (t l : ℕ) (sort : (rules_of (kind_at w l)).sort ≡ locks
       → Comes c again (course_act l seen k) false true k
   won c again seen is (Ends answer) told not_parks = inl (omega arith)
   won c again seen is Runs told not_parks = inl (omega arith)
-  won c again seen is Marks told not_parks = inr (omega arith, inl (sets c seen is told))
+  won c again seen is Marks told not_parks = inr (omega arith, inl (bit_pending c seen is told))
   won c again seen is Parks told not_parks = absurd cc
 
   -- another value fails its exchange

@@ -28,7 +28,7 @@ use Rattle.lot_machine.specs.Machine.{State, can_do, can_go, kind_at, place_at, 
 use Rattle.lot_machine.specs.Machine.{state_after_going, word_at}
 use Rattle.lot_machine.specs.Fits.{IsThere, PlaceFits}
 use Rattle.lot_laws.specs.SitesOf.{FitsItsLock, IsInductive, IsWorld, rules_in, site_of}
-use Rattle.lot_laws.proofs.alone.RwLock.{word_small}
+use Rattle.lot_laws.proofs.rwlock.Words.{word_small}
 use Rattle.lot_laws.proofs.calls.OwnPlace.{gone_place}
 use Rattle.lot_laws.proofs.condvar.OwnStand.{IsStill, own_place, went_is, went_place}
 use Rattle.lot_laws.proofs.condvar.WaitersAside.{plain_sort}

@@ -11,25 +11,25 @@ use Rattle.lot_machine.specs.Fits.{SameSize}
 use Rattle.lot_machine.proofs.Shape.{after_size}
 use Rattle.lot_laws.specs.Refinement.{locks_of}
 use Rattle.lot_laws.specs.SitesOf.{IsWorld}
-use Rattle.lot_laws.proofs.alone.WorldRuns.{world_after}
+use Rattle.lot_laws.proofs.promises.WorldRuns.{world_after}
 use Rattle.lot_laws.proofs.machine.Possible.{go_possible, turner_there}
 use Rattle.lot_laws.proofs.promises.Headline.{holds_after}
 use Rattle.lot_rests.specs.Rests.{AllGo, GoesOnward, NobodyGoes, WorldsComeToRest, after_goes, most_steps}
 use Rattle.lot_rests.proofs.Most.{ways_most, work_most}
 use Rattle.lot_rests.proofs.Rows.{clear_most}
 use Rattle.lot_rests.proofs.Sums.{potential_most, sum_below, sum_most}
-use Rattle.lot_rests.proofs.Turns.{clear_at, events, left, step_falls, ways_at, work_at}
+use Rattle.lot_rests.proofs.Turns.{clear_at, events, steps_left, step_falls, ways_at, work_at}
 
 -- ---------------------------------------------------------------- the run is short
 
-runs_short : (ss : List Step) (w : State) → IsWorld w → GoesOnward w ss → length ss ≤ left w
+runs_short : (ss : List Step) (w : State) → IsWorld w → GoesOnward w ss → length ss ≤ steps_left w
 runs_short [] w h on = omega arith
 runs_short (s ∷ ss) w h on =
-    let rest : length ss ≤ left (after w s) = runs_short ss (after w s) (world_after w s h) on.2 in
-    let falls : left (after w s) + 1 ≤ left w = step_falls w s h on.0 on.1 in
+    let rest : length ss ≤ steps_left (after w s) = runs_short ss (after w s) (world_after w s h) on.2 in
+    let falls : steps_left (after w s) + 1 ≤ steps_left w = step_falls w s h on.0 on.1 in
     omega arith
 
-pub left_most : (w : State) → left w ≤ most_steps (length w.places) (length w.locks)
+pub left_most : (w : State) → steps_left w ≤ most_steps (length w.places) (length w.locks)
 left_most w =
     let works : sum_below (length w.places) (work_at w) ≤ 21 * length w.places =
     sum_most (length w.places) 21 (work_at w) (λ u. work_most (place_at w u)) in
@@ -41,13 +41,13 @@ left_most w =
     (omega arith) short
 
 -- threads that go on one after another
-pub goes_lower : (ts : List ℕ) (w : State) → IsWorld w → AllGo w ts → left (after_goes w ts) + length ts
-    ≤ left w
+pub goes_lower : (ts : List ℕ) (w : State) → IsWorld w → AllGo w ts → steps_left (after_goes w ts) + length ts
+    ≤ steps_left w
 goes_lower [] w h go = omega arith
 goes_lower (t ∷ ts) w h go =
-    let rest : left (after_goes (after w (go_of t)) ts) + length ts ≤ left (after w (go_of t)) =
+    let rest : steps_left (after_goes (after w (go_of t)) ts) + length ts ≤ steps_left (after w (go_of t)) =
     goes_lower ts (after w (go_of t)) (world_after w (go_of t) h) go.1 in
-    let falls : left (after w (go_of t)) + 1 ≤ left w = step_falls w (go_of t) h tt go.0 in
+    let falls : steps_left (after w (go_of t)) + 1 ≤ steps_left w = step_falls w (go_of t) h tt go.0 in
     omega arith
 
 pub goes_world : (ts : List ℕ) (w : State) → IsWorld w → IsWorld (after_goes w ts)

@@ -18,7 +18,7 @@ use Rattle.lot_laws.proofs.promises.Headline.{holds_after}
 use Rattle.lot_laws.specs.SitesOf.{IsWorld}
 use Rattle.lot_rests.specs.Rests.{AllGo, GoesRound, NobodyGoes, Settles, after_goes, is_turn}
 use Rattle.lot_rests.proofs.Rest.{goes_lower, goes_on, goes_size, goes_then, goes_world, left_most, quiet}
-use Rattle.lot_rests.proofs.Turns.{left}
+use Rattle.lot_rests.proofs.Turns.{steps_left}
 
 -- the threads below this one have had their turn
 pub record GoneSo (w : State) (n : ℕ) (moved : Bool) (v : State) : Type 0 where
@@ -111,12 +111,12 @@ one_round w v u moved so round = record {
 }
 
 -- a round in which some thread goes on leaves less before the world
-pub round_lowers : (w v : State) → IsWorld w → GoesRound w true v → left v < left w
+pub round_lowers : (w v : State) → IsWorld w → GoesRound w true v → steps_left v < steps_left w
 round_lowers w v h round =
-    let falls : left (after_goes w round.threads) + length round.threads ≤ left w =
+    let falls : steps_left (after_goes w round.threads) + length round.threads ≤ steps_left w =
     goes_lower round.threads w h round.go in
     let some : 1 ≤ length round.threads = round.moved refl in
-    subst (λ x. left x < left w) (sym round.leads) (omega arith)
+    subst (λ x. steps_left x < steps_left w) (sym round.leads) (omega arith)
 
 pub gone_world : (w v : State) → IsWorld w → HasGone w v → IsWorld v
 gone_world w v h so = subst IsWorld (sym so.leads) (goes_world so.threads w h)
@@ -133,7 +133,7 @@ settles w v h so stuck = record {
   threads = so.threads;
   go = so.go;
   leads = so.leads;
-  few = (let falls : left (after_goes w so.threads) + length so.threads ≤ left w =
+  few = (let falls : steps_left (after_goes w so.threads) + length so.threads ≤ steps_left w =
       goes_lower so.threads w h so.go in let most = left_most w in omega arith);
   stuck = stuck;
 }

@@ -224,9 +224,9 @@ module _ (w : State) (t l : ℕ) (readers : has_readers (rules_of (kind_at w l))
     came_less to (purpose.Downgrade d) = omega arith
     came_less to (purpose.Upgrade how) = omega arith
 
-    sets : (seen : ℕ) → (word == seen) ≡ true → has_parked seen ≡ false
+    bit_pending : (seen : ℕ) → (word == seen) ≡ true → has_parked seen ≡ false
         → SetsBit w (exchange l seen (plus seen 1))
-    sets seen is unset = let e : word ≡ seen = eqb-true word seen is in record {
+    bit_pending seen is unset = let e : word ≡ seen = eqb-true word seen is in record {
       lock = l;
       op = Exchange seen (plus seen 1);
       is = refl;
@@ -270,7 +270,7 @@ module _ (w : State) (t l : ℕ) (readers : has_readers (rules_of (kind_at w l))
             (decides false waits b)
             (ways_then ways_of (if b then stays (on (at.Decide seen)) (at.Decide (plus seen 1))
             else looked a (on (at.Decide seen)) word))
-        by_word true is = inr (omega arith, inl (sets seen is unset))
+        by_word true is = inr (omega arith, inl (bit_pending seen is unset))
         by_word false is = looked_row (at.Decide seen) (exchange l seen (plus seen 1))
             (exchange_fails seen (plus seen 1) word is) (decided_for a q word)
 

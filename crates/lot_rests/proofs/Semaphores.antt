@@ -55,8 +55,8 @@ module _ (w : State) (t l : ℕ) (sort : (rules_of (kind_at w l)).sort ≡ locks
 
   -- ---------------------------------------------------------------- by the value seen last
 
-  sets : (word == 0) ≡ true → SetsBit w (act.Word l (Exchange 0 1))
-  sets is = record {
+  bit_pending : (word == 0) ≡ true → SetsBit w (act.Word l (Exchange 0 1))
+  bit_pending is = record {
     lock = l;
     op = Exchange 0 1;
     is = refl;
@@ -78,7 +78,7 @@ module _ (w : State) (t l : ℕ) (sort : (rules_of (kind_at w l)).sort ≡ locks
           (decided_next timed again b free))
       by_word false free is = nears 4 4 (loads (word == 1)) (acquire_ways word (acquire.Decide word))
           (omega arith) (exchange_fails 0 1 word is) looked_now
-      by_word true false is = inr (omega arith, inl (sets is))
+      by_word true false is = inr (omega arith, inl (bit_pending is))
       by_word true true is = inl (omega arith)
 
   -- the thread tries to get a permit

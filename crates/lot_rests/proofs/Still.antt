@@ -7,7 +7,7 @@ use Rattle.core_base.specs.declared.keys.Keys.TheVariants.{One, Two}
 use Rattle.core_base.specs.declared.ops.Op.{Op}
 use Rattle.core_base.specs.Words.{apply}
 use Rattle.core_base.specs.declared.wants.Want.{Want}
-use Rattle.spec_locks.specs.declared.kinds.Kind as kind
+use Rattle.spec_locks.specs.declared.kinds.Kind.TheVariants as kind
 use Rattle.steps_base.specs.Acts.{holds, takes_effect}
 use Rattle.steps_base.specs.declared.acts.Act.{Act}
 use Rattle.steps_base.specs.declared.acts.Act.TheVariants.{Word, HandOver, Enter, Park, Take, Requeue, Leave}
@@ -54,7 +54,7 @@ module _ (w : State) (t : ℕ) (p : Place) where
 
   operated_words : (l : ℕ) (f : Op) (k : ℕ) → (apply f (word_at w l) == word_at w l) ≡ true
       → word_at (state_after_operation w t p l f) k ≡ word_at w k
-  operated_words l f k is = set_field (λ x. x.word) w.locks l _ (unlocked kind.TheVariants.Mutex)
+  operated_words l f k is = set_field (λ x. x.word) w.locks l _ (unlocked kind.Mutex)
       (eqb-true (apply f (word_at w l)) (word_at w l) is) k
 
   failed_words : (l : ℕ) (f : Op) (k : ℕ) (b : Bool) → not b ≡ true → (apply f (word_at w l) == word_at w l)
@@ -90,9 +90,9 @@ module _ (w : State) (t : ℕ) (p : Place) where
   -- an operation changes its own word alone
   pub word_then : (l : ℕ) (f : Op) → l < length w.locks → word_at (state_after_operation w t p l f) l
       ≡ apply f (word_at w l)
-  word_then l f there = ap (λ x. x.word) (get_or-set_same w.locks l _ (unlocked kind.TheVariants.Mutex) there)
+  word_then l f there = ap (λ x. x.word) (get_or-set_same w.locks l _ (unlocked kind.Mutex) there)
 
   pub other_words : (l : ℕ) (f : Op) (k : ℕ) → k ≢ l → word_at (state_after_operation w t p l f) k
       ≡ word_at w k
-  other_words l f k ne = ap (λ x. x.word) (get_or-set_other w.locks l k _ (unlocked kind.TheVariants.Mutex)
+  other_words l f k ne = ap (λ x. x.word) (get_or-set_other w.locks l k _ (unlocked kind.Mutex)
       ne)

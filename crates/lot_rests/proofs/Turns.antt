@@ -6,7 +6,7 @@ use Rattle.std.proofs.lemmas.Bool.{cases_eq, ltb-true}
 use Rattle.core_base.specs.declared.ops.Op.{Op}
 use Rattle.core_base.specs.Words.{apply}
 use Rattle.spec_locks.specs.declared.calls.Turn.{Turn}
-use Rattle.spec_locks.specs.declared.calls.Turn as turn
+use Rattle.spec_locks.specs.declared.calls.Turn.TheVariants as turn
 use Rattle.spec_locks.specs.declared.calls.Step.{Step}
 use Rattle.steps_base.specs.declared.acts.Act.{Act}
 use Rattle.steps_base.specs.declared.acts.Act.TheVariants as act
@@ -59,8 +59,8 @@ ways_at w t = ways (word_at w) (place_at w t)
 abbrev pub events : State → ℕ
 events w = 3 * sum_below (length w.places) (work_at w) + sum_below (length w.locks) (clear_at w)
 
-abbrev pub left : State → ℕ
-left w = potential (length w.places) (events w) (sum_below (length w.places) (ways_at w))
+abbrev pub steps_left : State → ℕ
+steps_left w = potential (length w.places) (events w) (sum_below (length w.places) (ways_at w))
 
 -- ---------------------------------------------------------------- a step
 
@@ -75,7 +75,7 @@ module _ (w v : State) (size : SameSize w v) where
   -- the step uses an event up, and changes one word at most
   event_falls : (t l : ℕ) → t < length w.places → ((u : ℕ) → work_at v u ≤ work_at w u) → work_at v t + 1
       ≤ work_at w t
-      → ((k : ℕ) → k ≢ l → clear_at v k ≤ clear_at w k) → left v + 1 ≤ left w
+      → ((k : ℕ) → k ≢ l → clear_at v k ≤ clear_at w k) → steps_left v + 1 ≤ steps_left w
   event_falls t l there most less others =
       let works : sum_below (length w.places) (work_at v) + 1 ≤ sum_below (length w.places) (work_at w) =
       sum_less (length w.places) t (work_at w) (work_at v) there most less in
@@ -91,7 +91,7 @@ module _ (w v : State) (size : SameSize w v) where
   -- the step sets a bit
   bit_falls : (l : ℕ) → l < length w.locks → ((u : ℕ) → work_at v u ≤ work_at w u)
       → ((k : ℕ) → clear_at v k ≤ clear_at w k)
-      → clear_at v l + 1 ≤ clear_at w l → left v + 1 ≤ left w
+      → clear_at v l + 1 ≤ clear_at w l → steps_left v + 1 ≤ steps_left w
   bit_falls l there most others less =
       let works : sum_below (length w.places) (work_at v) ≤ sum_below (length w.places) (work_at w) =
       sum_at_most (length w.places) (work_at w) (work_at v) (λ u lt. most u) in
@@ -106,7 +106,7 @@ module _ (w v : State) (size : SameSize w v) where
   -- the thread of the step comes nearer
   way_falls : (t : ℕ) → t < length w.places → ((u : ℕ) → work_at v u ≤ work_at w u)
       → ((k : ℕ) → clear_at v k ≤ clear_at w k)
-      → ((u : ℕ) → ways_at v u ≤ ways_at w u) → ways_at v t + 1 ≤ ways_at w t → left v + 1 ≤ left w
+      → ((u : ℕ) → ways_at v u ≤ ways_at w u) → ways_at v t + 1 ≤ ways_at w t → steps_left v + 1 ≤ steps_left w
   way_falls t there most others short less =
       let works : sum_below (length w.places) (work_at v) ≤ sum_below (length w.places) (work_at w) =
       sum_at_most (length w.places) (work_at w) (work_at v) (λ u lt. most u) in
@@ -180,7 +180,7 @@ module _ (w : State) (t : ℕ) (h : IsWorld w) (there : t < length w.places) (ca
     own_clear : clear_at gone l ≡ clear (kind_at w l) (apply f (word_at w l))
     own_clear = λ i. clear (kinds l i) (own_word i)
 
-    set_falls : clear (kind_at w l) (apply f (word_at w l)) + 1 ≤ clear_at w l → left gone + 1 ≤ left w
+    set_falls : clear (kind_at w l) (apply f (word_at w l)) + 1 ≤ clear_at w l → steps_left gone + 1 ≤ steps_left w
     set_falls fewer = bit_falls w gone size l here works bits less
       where
         less : clear_at gone l + 1 ≤ clear_at w l
@@ -212,25 +212,25 @@ module _ (w : State) (t : ℕ) (h : IsWorld w) (there : t < length w.places) (ca
             still))) (omega arith)
       ]
 
-      still_falls : left gone + 1 ≤ left w
+      still_falls : steps_left gone + 1 ≤ steps_left w
       still_falls = way_falls w gone size t there works (λ k. same_clear w gone k (kinds k) (words k)) short
           nearer
 
   by_row : Goes w does (work_at w t) (work_at gone t) (ways_at w t) (ways (word_at w) (place_at gone t))
-      → left gone + 1 ≤ left w
+      → steps_left gone + 1 ≤ steps_left w
   by_row (inl less) = let lock = one_word w gone t one in event_falls w gone size t lock.0 there works less
       (λ k ne. same_clear w gone k (kinds k) (lock.1 k ne))
-  by_row (inr (most, inl sets)) = set_falls sets.lock sets.op sets.is sets.there sets.fewer
+  by_row (inr (most, inl bit_pending)) = set_falls bit_pending.lock bit_pending.op bit_pending.is bit_pending.there bit_pending.fewer
   by_row (inr (most, inr near)) = still_falls near.0 near.1
 
-  go_falls : left gone + 1 ≤ left w
+  go_falls : steps_left gone + 1 ≤ steps_left w
   go_falls = by_row row
 
--- ---------------------------------------------------------------- its time is up
+-- ---------------------------------------------------------------- the time is up
 
 late_falls : (w : State) (t : ℕ) → t < length w.places → (o : Option ℕ) → late_key (place_at w t) ≡ o
     → is_free_under w o ≡ true
-    → left (state_after_late_on w t o) + 1 ≤ left w
+    → steps_left (state_after_late_on w t o) + 1 ≤ steps_left w
 late_falls w t there None is free = absurd cc
 late_falls w t there (Some key) is free = event_falls w gone size t 0 there works less (λ k ne. omega arith)
   where
@@ -253,7 +253,7 @@ late_falls w t there (Some key) is free = event_falls w gone size t 0 there work
           (omega arith)
     ]
 
--- ---------------------------------------------------------------- its closure has answered
+-- ---------------------------------------------------------------- the closure has answered
 
 module _ (w : State) (t : ℕ) (there : t < length w.places) (succeeded : Bool) (runs : RunsOne (place_at w t))
     (size : SameSize w (state_after_close w t succeeded))
@@ -300,7 +300,7 @@ module _ (w : State) (t : ℕ) (there : t < length w.places) (succeeded : Bool) 
         (acted_work closing t ending (act_of ending) u))
   ]
 
-  close_falls : left closed + 1 ≤ left w
+  close_falls : steps_left closed + 1 ≤ steps_left w
   close_falls = let lock = one_word w closed t one in event_falls w closed size t lock.0 there closed_works
       closed_less (λ k ne. same_clear w closed k (same_kinds k) (lock.1 k ne))
 
@@ -309,25 +309,25 @@ module _ (w : State) (t : ℕ) (there : t < length w.places) (succeeded : Bool) 
 turn_falls : (w : State) (t : ℕ) (x : Turn) → IsWorld w → t < length w.places → can_turn w t x ≡ true
     → IsOnward x
     → SameSize w (state_after_turn w t x) → ChangesOneThing w t (state_after_turn w t x)
-    → ((k : ℕ) → kind_at (state_after_turn w t x) k ≡ kind_at w k) → left (state_after_turn w t x) + 1
-    ≤ left w
-turn_falls w t (turn.TheVariants.Begin c) h there can on size one kinds = absurd on
-turn_falls w t turn.TheVariants.Spin h there can on size one kinds = absurd on
-turn_falls w t turn.TheVariants.Go h there can on size one kinds = go_falls w t h there can size one
-turn_falls w t turn.TheVariants.Late h there can on size one kinds =
+    → ((k : ℕ) → kind_at (state_after_turn w t x) k ≡ kind_at w k) → steps_left (state_after_turn w t x) + 1
+    ≤ steps_left w
+turn_falls w t (turn.Begin c) h there can on size one kinds = absurd on
+turn_falls w t turn.Spin h there can on size one kinds = absurd on
+turn_falls w t turn.Go h there can on size one kinds = go_falls w t h there can size one
+turn_falls w t turn.Late h there can on size one kinds =
     late_falls w t there (late_key (place_at w t)) refl can
-turn_falls w t turn.TheVariants.Ok h there can on size one kinds = close_falls w t there true
+turn_falls w t turn.Ok h there can on size one kinds = close_falls w t there true
     (closes_one w t true can) size one kinds
-turn_falls w t turn.TheVariants.Err h there can on size one kinds = close_falls w t there false
+turn_falls w t turn.Err h there can on size one kinds = close_falls w t there false
     (closes_one w t false can) size one kinds
 
 pub step_falls : (w : State) (s : Step) → IsWorld w → IsOnward s.turn → is_possible w s ≡ true
-    → left (after w s) + 1 ≤ left w
+    → steps_left (after w s) + 1 ≤ steps_left w
 step_falls w s h on can =
     let led : after w s ≡ state_after_turn w s.thread s.turn =
     ap (λ b. if b then state_after_turn w s.thread s.turn else w) can in
     let parts = both (nat_lt s.thread (length w.places)) (can_turn w s.thread s.turn) can in
-    subst (λ v. left v + 1 ≤ left w) (sym led)
+    subst (λ v. steps_left v + 1 ≤ steps_left w) (sym led)
     (turn_falls w s.thread s.turn h (ltb-true s.thread (length w.places) parts.0) parts.1 on
     (subst (SameSize w) led (after_size w s))
     (subst (ChangesOneThing w s.thread) led (one_thing w s h.inductive))

@@ -1,10 +1,10 @@
 -- No livelock: threads that begin nothing new come to rest, in whatever order they take their turns.
 use Rattle.std.specs.Prelude.{ℕ, Bool, true, false, ◌≡◌, ◌≤◌, ◌+◌, ◌*◌, List, [], ◌∷◌, length}
 use Rattle.spec_locks.specs.declared.calls.Turn.{Turn}
-use Rattle.spec_locks.specs.declared.calls.Turn as turn
+use Rattle.spec_locks.specs.declared.calls.Turn.TheVariants as turn
 use Rattle.spec_locks.specs.declared.calls.Step.{Step}
 use Rattle.spec_locks.specs.declared.outcomes.Outcome.{Outcome}
-use Rattle.spec_locks.specs.declared.outcomes.Outcome as outcome
+use Rattle.spec_locks.specs.declared.outcomes.Outcome.TheVariants as outcome
 use Rattle.spec_locks.specs.Rest.{IsQuiet}
 use Rattle.lot_machine.specs.Machine.{State, after, go_of, is_possible}
 use Rattle.lot_laws.specs.Refinement.{locks_of}
@@ -12,12 +12,12 @@ use Rattle.lot_laws.specs.SitesOf.{IsWorld}
 
 -- a turn that begins no call, and looks at no word once more in place of an act
 abbrev pub IsOnward : Turn → Type 0
-IsOnward (turn.TheVariants.Begin call) = ⊥
-IsOnward turn.TheVariants.Go = Unit {0}
-IsOnward turn.TheVariants.Spin = ⊥
-IsOnward turn.TheVariants.Late = Unit {0}
-IsOnward turn.TheVariants.Ok = Unit {0}
-IsOnward turn.TheVariants.Err = Unit {0}
+IsOnward (turn.Begin call) = ⊥
+IsOnward turn.Go = Unit {0}
+IsOnward turn.Spin = ⊥
+IsOnward turn.Late = Unit {0}
+IsOnward turn.Ok = Unit {0}
+IsOnward turn.Err = Unit {0}
 
 -- each step is such a turn, and is possible where it comes
 abbrev pub GoesOnward : State → List Step → Type 0
@@ -44,7 +44,7 @@ WorldsComeToRest = (w : State) → IsWorld w → ComesToRest w
 
 -- ---------------------------------------------------------------- one order of them
 
--- these threads go on one after another, each where it can
+-- threads go on one after another, each where it can
 abbrev pub AllGo : State → List ℕ → Type 0
 AllGo w [] = Unit {0}
 AllGo w (t ∷ ts) = (is_possible w (go_of t) ≡ true) × AllGo (after w (go_of t)) ts
@@ -55,7 +55,7 @@ after_goes w (t ∷ ts) = after_goes (after w (go_of t)) ts
 
 -- the outcome of a turn that was possible
 abbrev pub is_turn : Outcome → Bool
-is_turn outcome.TheVariants.NotNow = false
+is_turn outcome.NotNow = false
 is_turn o = true
 
 -- some threads go on, and only where nobody can there is none

@@ -1,7 +1,7 @@
 -- The act of a step that ends no call is the one of the next place.
 use Rattle.std.proofs.Common.{◌≡◌, ◌≢◌, refl}
 use Rattle.spec_locks.specs.declared.outcomes.Answer.{Answer}
-use Rattle.steps_base.specs.declared.acts.Act as act
+use Rattle.steps_base.specs.declared.acts.Act.TheVariants as act
 use Rattle.steps_base.specs.declared.acts.Next.{Next}
 use Rattle.steps_base.specs.declared.acts.Next.TheVariants.{At, End}
 use Rattle.steps_base.specs.declared.acts.Reply.{Reply}
@@ -24,36 +24,36 @@ use Rattle.steps_semaphore.specs.SemaphoreSteps.{semaphore_next}
 use Rattle.steps_semaphore.specs.declared.places.SemaphorePlace.{SemaphorePlace}
 
 -- a step that ends no call does what its place says
-pub does : (p : Place) (r : Reply) → ((x : Answer) → next_act p r ≢ act.TheVariants.End x) → next_act p r
+pub does : (p : Place) (r : Reply) → ((x : Answer) → next_act p r ≢ act.End x) → next_act p r
     ≡ act_of (next_place p r)
 does Idle r goes = refl
 does (Mutex lock at) r goes = of (mutex_next at r) goes
   where
-    of : (n : Next MutexPlace) → ((x : Answer) → mutex_does lock n ≢ act.TheVariants.End x)
+    of : (n : Next MutexPlace) → ((x : Answer) → mutex_does lock n ≢ act.End x)
         → mutex_does lock n ≡ act_of (mutex_goes lock n)
     of (At q) h = refl
     of (End x) h = absurd (h x refl)
 does (RwLock lock a at) r goes = of (call_next a at r) goes
   where
-    of : (n : Next RwLockCallPlace) → ((x : Answer) → rwlock_does lock a n ≢ act.TheVariants.End x)
+    of : (n : Next RwLockCallPlace) → ((x : Answer) → rwlock_does lock a n ≢ act.End x)
         → rwlock_does lock a n ≡ act_of (rwlock_goes lock a n)
     of (At q) h = refl
     of (End x) h = absurd (h x refl)
 does (Once lock at) r goes = of (once_next at r) goes
   where
-    of : (n : Next OncePlace) → ((x : Answer) → once_does lock n ≢ act.TheVariants.End x) → once_does lock n
+    of : (n : Next OncePlace) → ((x : Answer) → once_does lock n ≢ act.End x) → once_does lock n
         ≡ act_of (once_goes lock n)
     of (At q) h = refl
     of (End x) h = absurd (h x refl)
 does (Condvar lock at) r goes = of (condvar_next at r) goes
   where
-    of : (n : Next CondvarPlace) → ((x : Answer) → condvar_does lock n ≢ act.TheVariants.End x)
+    of : (n : Next CondvarPlace) → ((x : Answer) → condvar_does lock n ≢ act.End x)
         → condvar_does lock n ≡ act_of (condvar_goes lock n)
     of (At q) h = refl
     of (End x) h = absurd (h x refl)
 does (Semaphore lock at) r goes = of (semaphore_next at r) goes
   where
-    of : (n : Next SemaphorePlace) → ((x : Answer) → semaphore_does lock n ≢ act.TheVariants.End x)
+    of : (n : Next SemaphorePlace) → ((x : Answer) → semaphore_does lock n ≢ act.End x)
         → semaphore_does lock n ≡ act_of (semaphore_goes lock n)
     of (At q) h = refl
     of (End x) h = absurd (h x refl)

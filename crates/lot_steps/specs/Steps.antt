@@ -3,12 +3,12 @@ use Rattle.std.specs.Prelude.{ℕ, Bool, true, false, Option, Some, None, if◌t
 use Rattle.std.specs.Prelude.{◌<◌}
 use Rattle.spec_locks.specs.declared.kinds.Kind.{Kind}
 use Rattle.spec_locks.specs.declared.calls.Call.{Call}
-use Rattle.spec_locks.specs.declared.calls.Call as call
+use Rattle.spec_locks.specs.declared.calls.Call.TheVariants as call
 use Rattle.lot_steps.specs.declared.places.Place.{Place}
 use Rattle.lot_steps.specs.declared.places.Place.TheVariants.{Idle, Mutex, RwLock, Once, Condvar, Semaphore}
 use Rattle.steps_mutex.specs.declared.places.MutexPlace.{MutexPlace}
 use Rattle.steps_base.specs.declared.acts.Act.{Act}
-use Rattle.steps_base.specs.declared.acts.Act as act
+use Rattle.steps_base.specs.declared.acts.Act.TheVariants as act
 use Rattle.steps_base.specs.declared.acts.Reply.{Reply}
 use Rattle.steps_base.specs.declared.acts.Next.{Next}
 use Rattle.steps_base.specs.declared.acts.Next.TheVariants.{At, End}
@@ -41,20 +41,20 @@ use Rattle.steps_semaphore.specs.SemaphoreProfiles.{semaphore_profile}
 
 -- where a call of a lock of a kind begins
 abbrev pub first_place : Kind → Call → Place
-first_place kind (call.TheVariants.Mutex lock c) = Mutex lock (mutex_first (is_fair kind) c)
-first_place kind (call.TheVariants.RwLock lock c) = RwLock lock (admission_of_kind kind) (call_first c)
-first_place kind (call.TheVariants.Once lock c) = Once lock (once_first c)
-first_place kind (call.TheVariants.Condvar lock c) = Condvar lock (condvar_first c)
-first_place kind (call.TheVariants.Semaphore lock c) = Semaphore lock (semaphore_first c)
+first_place kind (call.Mutex lock c) = Mutex lock (mutex_first (is_fair kind) c)
+first_place kind (call.RwLock lock c) = RwLock lock (admission_of_kind kind) (call_first c)
+first_place kind (call.Once lock c) = Once lock (once_first c)
+first_place kind (call.Condvar lock c) = Condvar lock (condvar_first c)
+first_place kind (call.Semaphore lock c) = Semaphore lock (semaphore_first c)
 
 -- whether a thread has the right that a call needs, of the lock with these owners; a call of a
 -- `Once` needs none
 abbrev pub has_right : Call → ℕ → Owners → ℕ → Bool
-has_right (call.TheVariants.Mutex lock c) t owners shares = mutex_right c t owners
-has_right (call.TheVariants.RwLock lock c) t owners shares = call_right c t owners shares
-has_right (call.TheVariants.Once lock c) t owners shares = true
-has_right (call.TheVariants.Condvar lock c) t owners shares = condvar_right c t owners
-has_right (call.TheVariants.Semaphore lock c) t owners shares = semaphore_right c shares
+has_right (call.Mutex lock c) t owners shares = mutex_right c t owners
+has_right (call.RwLock lock c) t owners shares = call_right c t owners shares
+has_right (call.Once lock c) t owners shares = true
+has_right (call.Condvar lock c) t owners shares = condvar_right c t owners
+has_right (call.Semaphore lock c) t owners shares = semaphore_right c shares
 
 abbrev pub is_idle : Place → Bool
 is_idle Idle = true
@@ -114,7 +114,7 @@ abbrev pub profile_at : Place → ℕ → Profile
 profile_at p lock = if calls p lock then profile p else if is_lock lock (beside_of p)
     then profile_at_mutex p else blank_row
 
--- this, or else that
+-- one place, or else another
 abbrev pub or_else : {A : Type 0} → Option A → Option A → Option A
 or_else None own = own
 or_else (Some x) own = Some x
@@ -130,7 +130,7 @@ HasKeys (Semaphore lock at) = lock < 2 ^ 63
 
 -- the next act of a thread
 abbrev pub act_of : Place → Act
-act_of Idle = act.TheVariants.Rest
+act_of Idle = act.Rest
 act_of (Mutex lock at) = mutex_act lock at
 act_of (RwLock lock a at) = call_act lock a at
 act_of (Once lock at) = once_act lock at
@@ -168,27 +168,27 @@ next_place (Semaphore lock at) reply = semaphore_goes lock (semaphore_next at re
 
 abbrev pub mutex_does : ℕ → Next MutexPlace → Act
 mutex_does lock (At at) = mutex_act lock at
-mutex_does lock (End answer) = act.TheVariants.End answer
+mutex_does lock (End answer) = act.End answer
 
 abbrev pub rwlock_does : ℕ → Admission → Next RwLockCallPlace → Act
 rwlock_does lock a (At at) = call_act lock a at
-rwlock_does lock a (End answer) = act.TheVariants.End answer
+rwlock_does lock a (End answer) = act.End answer
 
 abbrev pub once_does : ℕ → Next OncePlace → Act
 once_does lock (At at) = once_act lock at
-once_does lock (End answer) = act.TheVariants.End answer
+once_does lock (End answer) = act.End answer
 
 abbrev pub condvar_does : ℕ → Next CondvarPlace → Act
 condvar_does lock (At at) = condvar_act lock at
-condvar_does lock (End answer) = act.TheVariants.End answer
+condvar_does lock (End answer) = act.End answer
 
 abbrev pub semaphore_does : ℕ → Next SemaphorePlace → Act
 semaphore_does lock (At at) = semaphore_act lock at
-semaphore_does lock (End answer) = act.TheVariants.End answer
+semaphore_does lock (End answer) = act.End answer
 
 -- What a thread does at the place to which its reply leads.
 abbrev pub next_act : Place → Reply → Act
-next_act Idle reply = act.TheVariants.Rest
+next_act Idle reply = act.Rest
 next_act (Mutex lock at) reply = mutex_does lock (mutex_next at reply)
 next_act (RwLock lock a at) reply = rwlock_does lock a (call_next a at reply)
 next_act (Once lock at) reply = once_does lock (once_next at reply)

@@ -5,16 +5,16 @@ use Rattle.std.specs.Prelude.{option_map, option_and_then}
 use Rattle.std.specs.List.{slice_split}
 use Rattle.std.specs.Str.{bytes_eq}
 use Rattle.spec_locks.specs.declared.kinds.Kind.{Kind}
-use Rattle.spec_locks.specs.declared.kinds.Kind as kind
+use Rattle.spec_locks.specs.declared.kinds.Kind.TheVariants as kind
 use Rattle.spec_locks.specs.declared.calls.MutexCall.{MutexCall}
-use Rattle.spec_locks.specs.declared.calls.MutexCall as mutex
+use Rattle.spec_locks.specs.declared.calls.MutexCall.TheVariants as mutex
 use Rattle.spec_locks.specs.declared.calls.RwLockCall.{RwLockCall}
 use Rattle.spec_locks.specs.declared.calls.RwLockCall.TheVariants.{Enter, Release, ReleaseFair, Downgrade}
 use Rattle.spec_locks.specs.declared.calls.RwLockCall.TheVariants.{Upgrade, Bump}
 use Rattle.spec_locks.specs.declared.calls.OnceCall.{OnceCall}
 use Rattle.spec_locks.specs.declared.calls.OnceCall.TheVariants.{CallOnce, Wait, WaitTimed}
 use Rattle.spec_locks.specs.declared.calls.SemaphoreCall.{SemaphoreCall}
-use Rattle.spec_locks.specs.declared.calls.SemaphoreCall as semaphore
+use Rattle.spec_locks.specs.declared.calls.SemaphoreCall.TheVariants as semaphore
 use Rattle.spec_locks.specs.declared.calls.Access.TheVariants.{Shared, Upgradable, Exclusive}
 use Rattle.spec_locks.specs.declared.calls.Downgrade.TheVariants.{ToShared, ToUpgradable, UpgradableToShared}
 use Rattle.spec_locks.specs.declared.calls.Patience.TheVariants.{Patient, Timed, Try}
@@ -22,9 +22,9 @@ use Rattle.spec_locks.specs.declared.kinds.TheConstants.{MOST_READERS}
 use Rattle.lot_text.specs.declared.grammar.NamedCall.{NamedCall}
 use Rattle.lot_text.specs.declared.grammar.NamedCall as call
 use Rattle.lot_text.specs.declared.grammar.Command.{Command}
-use Rattle.lot_text.specs.declared.grammar.Command as command
+use Rattle.lot_text.specs.declared.grammar.Command.TheVariants as command
 use Rattle.lot_text.specs.declared.grammar.NamedTurn.{NamedTurn}
-use Rattle.lot_text.specs.declared.grammar.NamedTurn as turn
+use Rattle.lot_text.specs.declared.grammar.NamedTurn.TheVariants as turn
 use Rattle.lot_text.specs.LockNames.{is_digit, name_of}
 
 -- words are parted by one space
@@ -47,34 +47,34 @@ number_read word = if has_form word then digits_after 0 word else None
 -- a reader-writer lock with a limit
 abbrev pub rwlock_kind_of : List ℕ → ℕ → Option Kind
 rwlock_kind_of word limit =
-    if bytes_eq word (codes "rwlock") then Some (kind.TheVariants.RwLock limit)
-    else (if bytes_eq word (codes "recursive") then Some (kind.TheVariants.Recursive limit)
+    if bytes_eq word (codes "rwlock") then Some (kind.RwLock limit)
+    else (if bytes_eq word (codes "recursive") then Some (kind.Recursive limit)
     else None)
 
 -- one with a limit, or a semaphore with its permits
 abbrev pub limited_kind_of : List ℕ → Option ℕ → Option Kind
 limited_kind_of word None = None
 limited_kind_of word (Some limit) =
-    if bytes_eq word (codes "semaphore") then Some (kind.TheVariants.Semaphore limit)
+    if bytes_eq word (codes "semaphore") then Some (kind.Semaphore limit)
     else rwlock_kind_of word limit
 
 -- without a limit, readers may be as many as fit into a word; a semaphore always says its permits
 abbrev pub kind_of : List ℕ → Option Kind
 kind_of word =
-    if bytes_eq word (codes "mutex") then Some kind.TheVariants.Mutex
-    else (if bytes_eq word (codes "fair") then Some kind.TheVariants.Fair
-    else (if bytes_eq word (codes "condvar") then Some kind.TheVariants.Condvar
-    else (if bytes_eq word (codes "once") then Some kind.TheVariants.Once
+    if bytes_eq word (codes "mutex") then Some kind.Mutex
+    else (if bytes_eq word (codes "fair") then Some kind.Fair
+    else (if bytes_eq word (codes "condvar") then Some kind.Condvar
+    else (if bytes_eq word (codes "once") then Some kind.Once
     else rwlock_kind_of word MOST_READERS)))
 
 abbrev pub mutex_call_of : List ℕ → Option MutexCall
 mutex_call_of word =
-    if bytes_eq word (codes "lock") then Some mutex.TheVariants.Lock
-    else (if bytes_eq word (codes "unlock") then Some mutex.TheVariants.Unlock
-    else (if bytes_eq word (codes "try_lock") then Some mutex.TheVariants.TryLock
-    else (if bytes_eq word (codes "lock_timed") then Some mutex.TheVariants.LockTimed
-    else (if bytes_eq word (codes "unlock_fair") then Some mutex.TheVariants.UnlockFair
-    else (if bytes_eq word (codes "bump") then Some mutex.TheVariants.Bump
+    if bytes_eq word (codes "lock") then Some mutex.Lock
+    else (if bytes_eq word (codes "unlock") then Some mutex.Unlock
+    else (if bytes_eq word (codes "try_lock") then Some mutex.TryLock
+    else (if bytes_eq word (codes "lock_timed") then Some mutex.LockTimed
+    else (if bytes_eq word (codes "unlock_fair") then Some mutex.UnlockFair
+    else (if bytes_eq word (codes "bump") then Some mutex.Bump
     else None)))))
 
 -- a call that waits for a right to a reader-writer lock
@@ -127,10 +127,10 @@ once_call_of word =
 
 abbrev pub semaphore_call_of : List ℕ → Option SemaphoreCall
 semaphore_call_of word =
-    if bytes_eq word (codes "acquire") then Some (semaphore.TheVariants.Acquire Patient)
-    else (if bytes_eq word (codes "acquire_timed") then Some (semaphore.TheVariants.Acquire Timed)
-    else (if bytes_eq word (codes "try_acquire") then Some (semaphore.TheVariants.Acquire Try)
-    else (if bytes_eq word (codes "release") then Some semaphore.TheVariants.Release
+    if bytes_eq word (codes "acquire") then Some (semaphore.Acquire Patient)
+    else (if bytes_eq word (codes "acquire_timed") then Some (semaphore.Acquire Timed)
+    else (if bytes_eq word (codes "try_acquire") then Some (semaphore.Acquire Try)
+    else (if bytes_eq word (codes "release") then Some semaphore.Release
     else None)))
 
 -- one that notifies the waiters of a condition variable
@@ -166,34 +166,34 @@ call_of word =
 -- a turn by which a closure answers
 abbrev pub closing_turn_of : List ℕ → Option NamedTurn
 closing_turn_of word =
-    if bytes_eq word (codes "ok") then Some turn.TheVariants.Ok
-    else (if bytes_eq word (codes "err") then Some turn.TheVariants.Err
+    if bytes_eq word (codes "ok") then Some turn.Ok
+    else (if bytes_eq word (codes "err") then Some turn.Err
     else None)
 
 -- a turn that calls no lock
 abbrev pub turn_of : List ℕ → Option NamedTurn
 turn_of word =
-    if bytes_eq word (codes "go") then Some turn.TheVariants.Go
-    else (if bytes_eq word (codes "solo") then Some turn.TheVariants.Solo
-    else (if bytes_eq word (codes "spin") then Some turn.TheVariants.Spin
-    else (if bytes_eq word (codes "late") then Some turn.TheVariants.Late
+    if bytes_eq word (codes "go") then Some turn.Go
+    else (if bytes_eq word (codes "solo") then Some turn.Solo
+    else (if bytes_eq word (codes "spin") then Some turn.Spin
+    else (if bytes_eq word (codes "late") then Some turn.Late
     else closing_turn_of word)))
 
 -- a turn that calls a lock
 abbrev pub calling_turn_of : List ℕ → NamedCall → List ℕ → Option NamedTurn
 calling_turn_of word call name =
-    if bytes_eq word (codes "begin") then Some (turn.TheVariants.Begin call name)
-    else (if bytes_eq word (codes "do") then Some (turn.TheVariants.Do call name)
+    if bytes_eq word (codes "begin") then Some (turn.Begin call name)
+    else (if bytes_eq word (codes "do") then Some (turn.Do call name)
     else None)
 
 -- a thread's number and its turn
 abbrev pub turn_command : Option ℕ → Option NamedTurn → Option Command
 turn_command None turn = None
-turn_command (Some t) turn = option_map (command.TheVariants.Turn t) turn
+turn_command (Some t) turn = option_map (command.Turn t) turn
 
 abbrev pub lock_command : Option (List ℕ) → Option Kind → Option Command
 lock_command None kind = None
-lock_command (Some name) kind = option_map (command.TheVariants.Lock name) kind
+lock_command (Some name) kind = option_map (command.Lock name) kind
 
 -- a thread's number, `begin` or `do`, a call and the name of a lock
 abbrev pub calling_command_of : List ℕ → List ℕ → Option NamedCall → List ℕ → Option Command
@@ -206,10 +206,10 @@ calling_command_of a b c d =
 -- on a condition variable `T begin CALL NAME MUTEX`, `T do CALL NAME MUTEX`
 abbrev pub command_of : List (List ℕ) → Option Command
 command_of (a ∷ []) =
-    if bytes_eq a (codes "show") then Some command.TheVariants.Show
-    else (if bytes_eq a (codes "drain") then Some command.TheVariants.Drain else None)
+    if bytes_eq a (codes "show") then Some command.Show
+    else (if bytes_eq a (codes "drain") then Some command.Drain else None)
 command_of (a ∷ b ∷ []) =
-    if bytes_eq a (codes "threads") then option_map command.TheVariants.Threads (number_read b)
+    if bytes_eq a (codes "threads") then option_map command.Threads (number_read b)
     else turn_command (number_read a) (turn_of b)
 command_of (a ∷ b ∷ c ∷ []) =
     if bytes_eq a (codes "lock") then lock_command (name_of b) (kind_of c) else None

@@ -3,29 +3,29 @@ use Rattle.std.specs.Prelude.{ℕ, List, ◌++◌, codes, decimal}
 use Rattle.spec_locks.specs.declared.outcomes.Outcome.{Outcome}
 use Rattle.spec_locks.specs.declared.outcomes.Outcome.TheVariants.{NotNow, Step, Sleep, Closure, End}
 use Rattle.spec_locks.specs.declared.outcomes.Answer.{Answer}
-use Rattle.spec_locks.specs.declared.outcomes.Answer as answer
+use Rattle.spec_locks.specs.declared.outcomes.Answer.TheVariants as answer
 use Rattle.spec_locks.specs.declared.outcomes.OnceState.{OnceState}
-use Rattle.spec_locks.specs.declared.outcomes.OnceState as state
+use Rattle.spec_locks.specs.declared.outcomes.OnceState.TheVariants as state
 
 -- ---------------------------------------------------------------- outcomes
 
 abbrev pub state_text : OnceState → List ℕ
-state_text state.TheVariants.New = codes "New"
-state_text state.TheVariants.Poisoned = codes "Poisoned"
-state_text state.TheVariants.InProgress = codes "InProgress"
-state_text state.TheVariants.Done = codes "Done"
+state_text state.New = codes "New"
+state_text state.Poisoned = codes "Poisoned"
+state_text state.InProgress = codes "InProgress"
+state_text state.Done = codes "Done"
 
 abbrev pub answer_text : Answer → List ℕ
-answer_text answer.TheVariants.Ok = codes "ok"
-answer_text answer.TheVariants.Yes = codes "yes"
-answer_text answer.TheVariants.No = codes "no"
-answer_text answer.TheVariants.ReadersFull = codes "readers full"
-answer_text answer.TheVariants.Notified = codes "notified"
-answer_text answer.TheVariants.TimedOut = codes "timed out"
-answer_text answer.TheVariants.TwoMutexes = codes "two mutexes"
-answer_text answer.TheVariants.Poisoned = codes "poisoned"
-answer_text answer.TheVariants.Failed = codes "failed"
-answer_text (answer.TheVariants.Number n) = decimal n
+answer_text answer.Ok = codes "ok"
+answer_text answer.Yes = codes "yes"
+answer_text answer.No = codes "no"
+answer_text answer.ReadersFull = codes "readers full"
+answer_text answer.Notified = codes "notified"
+answer_text answer.TimedOut = codes "timed out"
+answer_text answer.TwoMutexes = codes "two mutexes"
+answer_text answer.Poisoned = codes "poisoned"
+answer_text answer.Failed = codes "failed"
+answer_text (answer.Number n) = decimal n
 
 abbrev pub outcome_text : Outcome → List ℕ
 outcome_text NotNow = codes "not now"

@@ -96,12 +96,12 @@ another r s b h full spare = record {
   second = h.second;
 }
   where
-    by_spare : (s.lock.queue ≢ []) ⊎ ((t : ℕ) × ((s.role t).brings ≡ true)) → IsOpen r.sort s.lock
+    by_spare : (s.lock.queue ≢ []) ⊎ ((t : ℕ) × ((s.role t).will_bring ≡ true)) → IsOpen r.sort s.lock
         → (s.filled ≡ false) ⊎ ((s.lock.queue ≡ []) × (has_readers r.sort ≡ true))
         → (t : ℕ) × IsDebtorRole r.sort (s.role t)
     by_spare some is_open (inl room) = h.main some is_open room
     by_spare (inl some) is_open (inr none) = absurd (some none.0)
-    by_spare (inr brings) is_open (inr none) = absurd (let mutex = (h.brought brings.0 brings.1).2
+    by_spare (inr will_bring) is_open (inr none) = absurd (let mutex = (h.brought will_bring.0 will_bring.1).2
         in let readers = none.1 in let g : has_readers r.sort ≡ false = ap has_readers mutex in cc)
 
 pub keeps_now : EachDeedKeepsNow

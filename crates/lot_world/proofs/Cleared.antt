@@ -24,7 +24,7 @@ use Rattle.lot_laws.specs.SitesOf.{IsWorld, key_of, rules_in, site_of}
 use Rattle.lot_laws.specs.Solo.{EndsAlone, EndsBy, IsUnobstructed, locks_afterwards}
 use Rattle.lot_laws.proofs.calls.Begins.{begin_possible}
 use Rattle.lot_laws.proofs.machine.Parts.{IsSingle}
-use Rattle.lot_laws.proofs.alone.EndsOrSleeps.{ends_alone}
+use Rattle.lot_alone.proofs.EndsOrSleeps.{ends_alone}
 use Rattle.lot_world.specs.Drained.{Drains}
 use Rattle.lot_world.specs.Quiet.{IsAllOver}
 use Rattle.lot_world.specs.Ordered.{NobodyInside, begin_of}

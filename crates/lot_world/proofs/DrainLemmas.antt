@@ -9,7 +9,7 @@ use Rattle.spec_locks.specs.declared.outcomes.Outcome.TheVariants as outcome
 use Rattle.spec_locks.specs.Locks.{rights_of}
 use Rattle.lot_machine.specs.Machine.{State, after, go_of, kind_at, place_at, step_outcome}
 use Rattle.lot_laws.specs.Refinement.{lock_state}
-use Rattle.lot_laws.proofs.alone.AloneSteps.{after_stuck}
+use Rattle.lot_laws.proofs.machine.Stuck.{after_stuck}
 use Rattle.lot_world.specs.Schedules.{Progress, one_more, run_alone, alone_by, go_alone, round, rounds}
 use Rattle.lot_world.specs.Schedules.{unless_still, releases, first_begin, or_else, first_release}
 use Rattle.lot_world.specs.Schedules.{release_taken, released, where_some}

@@ -7,7 +7,7 @@ use Rattle.lot_world.specs.Drained.{IsResting, OwnsNothing, Drains, RestingIsEmp
 -- a thread that rests looks after nobody
 no_debtor : (sort : Sort) (d : Role) → IsResting d → IsDebtorRole sort d → ⊥
 no_debtor sort d rest (inl e) = let f = rest.wakes in cc
-no_debtor sort d rest (inr (inl e)) = let f = rest.covers in cc
+no_debtor sort d rest (inr (inl e)) = let f = rest.owes_taken in cc
 no_debtor sort d rest (inr (inr e)) = absurd (let f : counts_some sort d.retries ≡ false =
     ap (counts_some sort) rest.retries in cc)
 
@@ -28,7 +28,7 @@ module _ (r : Rules) (s : Site) (site : IsSite r s) (resting : (t : ℕ) → IsR
 
   nobody_taken : (u : ℕ) (o : Option Taken) → s.lock.taken u ≡ o → s.lock.taken u ≡ None
   nobody_taken u None e = e
-  nobody_taken u (Some h) e = absurd (let c = site.carried u h e in let n = (resting h.by).carries in cc)
+  nobody_taken u (Some h) e = absurd (let c = site.carried u h e in let n = (resting h.by).has_taken in cc)
 
   open_now : Drains r.sort → s.lock.pending ≡ None → IsOpen r.sort s.lock
   open_now drains away = by_sort r.sort drains

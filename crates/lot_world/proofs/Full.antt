@@ -161,7 +161,7 @@ module _ (w : State) (h : IsStrict w) where
 pub full_is_empty : FullIsEmpty
 full_is_empty w h full = none_first w h full (queue_at w (key_of 0 Main)) refl
 
--- ---------------------------------------------------------------- it stays so
+-- ---------------------------------------------------------------- what stays so
 
 either_same : {A : Type 0} (f : CallState → A) (b : Bool) (c d : CallState) → f d ≡ f c
     → f (if b then d else c) ≡ f c

@@ -14,7 +14,7 @@ use Rattle.lot_laws.specs.Refinement.{call_state, lock_state, locks_of, runs_clo
 use Rattle.lot_laws.specs.Promises.{IsKept}
 use Rattle.lot_laws.proofs.machine.KindsStay.{after_kinds}
 use Rattle.lot_laws.proofs.calls.LockSteps.{IsTurn, after_step}
-use Rattle.lot_laws.proofs.alone.WorldRuns.{world_after, world_kept}
+use Rattle.lot_laws.proofs.promises.WorldRuns.{world_after, world_kept}
 use Rattle.lot_world.specs.Drained.{Drains}
 use Rattle.lot_world.specs.Few.{AllHaveFew, IsOfOneLock}
 use Rattle.lot_world.proofs.Few.{calls_left, few_go_on, rights_left}

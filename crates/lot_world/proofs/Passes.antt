@@ -43,9 +43,9 @@ use Rattle.lot_laws.proofs.condvar.StepsKeep.{after_condvars}
 use Rattle.lot_laws.proofs.hands.CountsKept.{counted_after}
 use Rattle.lot_laws.proofs.machine.Parts.{IsSingle, nothing_at}
 use Rattle.lot_laws.proofs.machine.KindsStay.{after_kinds}
-use Rattle.lot_laws.proofs.alone.Leads.{LeadsSurely, surely_rest, surely_step}
-use Rattle.lot_laws.proofs.alone.TwoLines.{Comes, StepsAlone, enter_comes, hand_comes, leave_comes}
-use Rattle.lot_laws.proofs.alone.TwoLines.{take_comes, word_comes}
+use Rattle.lot_alone.proofs.Leads.{LeadsSurely, surely_rest, surely_step}
+use Rattle.lot_alone.proofs.TwoLines.{Comes, StepsAlone, enter_comes, hand_comes, leave_comes}
+use Rattle.lot_alone.proofs.TwoLines.{take_comes, word_comes}
 use Rattle.lot_laws.proofs.mutex.FairMutexes.{settled_after}
 use Rattle.lot_laws.proofs.sites.TurnsKept.{after_inductive}
 use Rattle.lot_world.specs.Ordered.{begin_of}

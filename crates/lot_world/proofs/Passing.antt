@@ -22,7 +22,7 @@ use Rattle.steps_rwlock_fair.specs.declared.hand_over.HandOverAt.TheVariants as 
 use Rattle.lot_steps.specs.declared.places.Place.{Place}
 use Rattle.lot_steps.specs.declared.places.Place.TheVariants.{Mutex, RwLock}
 use Rattle.lot_machine.specs.Machine.{State}
-use Rattle.lot_laws.proofs.alone.Leads.{LeadsSurely}
+use Rattle.lot_alone.proofs.Leads.{LeadsSurely}
 use Rattle.lot_world.proofs.Passes.{Ended, Passes, by_hand, into, none_first, none_picked, on_word, out_of}
 use Rattle.lot_world.proofs.Passes.{word_ends}
 

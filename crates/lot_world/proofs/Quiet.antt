@@ -125,8 +125,8 @@ module _ (w : State) (draining : IsDraining w) (quiet : IsQuiet w) where
   resting t = elim (idle_or t) [
     | inl idle ↦ subst (λ p. IsResting (role_on p 0)) (sym idle) (record {
       wakes = refl;
-      carries = refl;
-      covers = refl;
+      has_taken = refl;
+      owes_taken = refl;
       retries = refl;
     })
     | inr h ↦ subst IsResting (sym (let e : role_on (place_at w t) 0 ≡ (profile (place_at w t)).role =
@@ -134,13 +134,13 @@ module _ (w : State) (draining : IsDraining w) (quiet : IsQuiet w) where
   ]
 
   -- nobody has anybody in hand
-  no_carrier : (t : ℕ) (b : Bool) → (location_at (place_at w t) 0).carries ≡ Some b → ⊥
+  no_carrier : (t : ℕ) (b : Bool) → (location_at (place_at w t) 0).has_taken ≡ Some b → ⊥
   no_carrier t b e = elim (idle_or t) [
-    | inl idle ↦ let f : (location_at Idle 0).carries ≡ Some b =
-        subst (λ p. (location_at p 0).carries ≡ Some b) idle e in let g : ◌≡◌ {A = Option Bool} None
+    | inl idle ↦ let f : (location_at Idle 0).has_taken ≡ Some b =
+        subst (λ p. (location_at p 0).has_taken ≡ Some b) idle e in let g : ◌≡◌ {A = Option Bool} None
         (Some b) = f in cc
     | inr h ↦ let row = sleepers_stand (place_at w t) h.stands h.asleep in let g : ◌≡◌ {A = Option Bool} None
-        (Some b) = sym row.carries ∙ sym (ap (λ x. x.carries) (location_here t h)) ∙ e in cc
+        (Some b) = sym row.has_taken ∙ sym (ap (λ x. x.has_taken) (location_here t h)) ∙ e in cc
   ]
 
   -- a thread that sleeps stands in a line

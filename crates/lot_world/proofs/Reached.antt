@@ -38,7 +38,7 @@ use Rattle.lot_laws.proofs.sites.Opening.{opening_condvars, opening_inductive}
 use Rattle.lot_laws.proofs.machine.Possible.{turner_there}
 use Rattle.lot_laws.proofs.promises.PromisesKept.{opening_is}
 use Rattle.lot_laws.proofs.mutex.FairMutexes.{opening_settled}
-use Rattle.lot_laws.proofs.alone.WorldRuns.{world_after, world_kept}
+use Rattle.lot_laws.proofs.promises.WorldRuns.{world_after, world_kept}
 use Rattle.lot_world.specs.Drained.{Drains}
 use Rattle.lot_world.specs.Few.{IsOfOneLock, PendsInCall}
 use Rattle.lot_world.specs.Pending.{AllBeganUnpending, BeganUnpending, OnlyWaitersStand}

@@ -29,7 +29,7 @@ use Rattle.lot_world.proofs.Releases.{GivesUp, given_up, gives_begun, gives_step
 use Rattle.lot_world.proofs.Rested.{all_free, rest}
 use Rattle.lot_world.proofs.Settled.{Spends, begin_adds, most_more, settled_keeps, settles}
 
--- this holds before each release
+-- what holds before each release
 pub record IsReady (w : State) : Type 0 where
   pub draining : IsDraining w
   pub strict : IsStrict w

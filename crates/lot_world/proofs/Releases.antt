@@ -29,7 +29,7 @@ use Rattle.lot_laws.specs.Promises.{IsHandedOverIn, IsKept}
 use Rattle.lot_laws.specs.Refinement.{call_at, call_state, lock_state, locks_of}
 use Rattle.lot_laws.proofs.machine.KindsStay.{after_kinds}
 use Rattle.lot_laws.proofs.calls.LockSteps.{IsTurn, after_step}
-use Rattle.lot_laws.proofs.alone.WorldRuns.{world_after, world_kept}
+use Rattle.lot_laws.proofs.promises.WorldRuns.{world_after, world_kept}
 use Rattle.lot_world.specs.Drained.{Drains}
 use Rattle.lot_world.specs.Few.{HasFew, IsFew, IsPlain}
 use Rattle.lot_world.specs.Ordered.{IsOrdered, begin_of}
@@ -214,7 +214,7 @@ given_up t x fair w h rest = elim h.either [
   )
 ]
 
--- ---------------------------------------------------------------- it begins
+-- ---------------------------------------------------------------- the call begins
 
 pub one_thread : (t : ℕ) → one_if_thread t (Some t) ≡ 1
 one_thread t = grind (arith, nat_tests)

@@ -12,7 +12,7 @@ use Rattle.lot_steps.specs.declared.places.Place.TheVariants.{Idle}
 use Rattle.lot_machine.specs.Machine.{State, after, can_go, go_of, go_outcome, is_possible, place_at}
 use Rattle.lot_machine.specs.Machine.{state_after_begin, step_outcome, word_at}
 use Rattle.lot_laws.specs.SitesOf.{IsWorld}
-use Rattle.lot_laws.proofs.alone.WorldRuns.{world_after}
+use Rattle.lot_laws.proofs.promises.WorldRuns.{world_after}
 use Rattle.lot_rests.specs.Rests.{NobodyGoes}
 use Rattle.lot_rests.proofs.Most.{ways_most, work_most}
 use Rattle.lot_rests.proofs.Rest.{left_most}

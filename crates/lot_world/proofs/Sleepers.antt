@@ -56,8 +56,8 @@ lock_rests : (l : ℕ) (e : Entry) (retries : Bool) (to : LockAt) → steps.lock
 lock_rests l e retries lock.Asleep h = (
   record {
     wakes = refl;
-    carries = refl;
-    covers = refl;
+    has_taken = refl;
+    owes_taken = refl;
     retries = refl;
   },
   refl,
@@ -65,8 +65,8 @@ lock_rests l e retries lock.Asleep h = (
 lock_rests l e retries (lock.Taken by) h = (
   record {
     wakes = refl;
-    carries = refl;
-    covers = refl;
+    has_taken = refl;
+    owes_taken = refl;
     retries = refl;
   },
   refl,
@@ -74,8 +74,8 @@ lock_rests l e retries (lock.Taken by) h = (
 lock_rests l e retries (lock.Handed by) h = (
   record {
     wakes = refl;
-    carries = refl;
-    covers = refl;
+    has_taken = refl;
+    owes_taken = refl;
     retries = refl;
   },
   refl,
@@ -102,8 +102,8 @@ rwlock_rests : (l : ℕ) (a : Admission) (q : RwLockPurpose) (b : Bool) (to : Rw
 rwlock_rests l a q b (at.Park parking.Asleep) h again = (
   record {
     wakes = refl;
-    carries = refl;
-    covers = refl;
+    has_taken = refl;
+    owes_taken = refl;
     retries = refl;
   },
   refl,
@@ -111,8 +111,8 @@ rwlock_rests l a q b (at.Park parking.Asleep) h again = (
 rwlock_rests l a q b (at.Park (parking.Taken by)) h again = (
   record {
     wakes = refl;
-    carries = refl;
-    covers = refl;
+    has_taken = refl;
+    owes_taken = refl;
     retries = refl;
   },
   refl,
@@ -120,8 +120,8 @@ rwlock_rests l a q b (at.Park (parking.Taken by)) h again = (
 rwlock_rests l a q b (at.Aside parking.Asleep) h again = (
   record {
     wakes = refl;
-    carries = refl;
-    covers = refl;
+    has_taken = refl;
+    owes_taken = refl;
     retries = refl;
   },
   refl,
@@ -129,8 +129,8 @@ rwlock_rests l a q b (at.Aside parking.Asleep) h again = (
 rwlock_rests l a q b (at.Aside (parking.Taken by)) h again = (
   record {
     wakes = refl;
-    carries = refl;
-    covers = refl;
+    has_taken = refl;
+    owes_taken = refl;
     retries = refl;
   },
   refl,
@@ -174,8 +174,8 @@ handed_rests : (l : ℕ) (a : Admission) (x : Access) (how : Patience) (b : Bool
 handed_rests l a x how b (handed.Asleep by alone) h = (
   record {
     wakes = refl;
-    carries = refl;
-    covers = refl;
+    has_taken = refl;
+    owes_taken = refl;
     retries = refl;
   },
   refl,
@@ -408,9 +408,9 @@ pending_own_nothing l (Condvar k to) rights stands of s h few = absurd stands
 
 lock_stands : (l : ℕ) (e : Entry) (retries : Bool) (to : LockAt) → steps.lock_act l to ≡ act.Sleep
     → StandsSomewhere (profile (Mutex l (mutex.Lock e retries to)))
-lock_stands l e retries lock.Asleep h = record { carries = refl; somewhere = inl refl }
-lock_stands l e retries (lock.Taken by) h = record { carries = refl; somewhere = inr (inr (by, false, refl)) }
-lock_stands l e retries (lock.Handed by) h = record { carries = refl; somewhere = inr (inr (by, true, refl)) }
+lock_stands l e retries lock.Asleep h = record { has_taken = refl; somewhere = inl refl }
+lock_stands l e retries (lock.Taken by) h = record { has_taken = refl; somewhere = inr (inr (by, false, refl)) }
+lock_stands l e retries (lock.Handed by) h = record { has_taken = refl; somewhere = inr (inr (by, true, refl)) }
 lock_stands l e retries lock.First h = absurd cc
 lock_stands l e retries lock.Load h = absurd cc
 lock_stands l e retries (lock.Decide seen) h =
@@ -426,14 +426,14 @@ lock_stands l e retries lock.GiveUp h = absurd cc
 plain_stands : (l : ℕ) (a : Admission) (q : RwLockPurpose) (b : Bool) (to : RwLockAt)
     → act_at l a (record { purpose = q; retries = b; at = to }) to ≡ act.Sleep
     → StandsSomewhere (profile (RwLock l a (Plain (record { purpose = q; retries = b; at = to }))))
-plain_stands l a q b (at.Park parking.Asleep) h = record { carries = refl; somewhere = inl refl }
+plain_stands l a q b (at.Park parking.Asleep) h = record { has_taken = refl; somewhere = inl refl }
 plain_stands l a q b (at.Park (parking.Taken by)) h = record {
-  carries = refl;
+  has_taken = refl;
   somewhere = inr (inr (by, false, refl));
 }
-plain_stands l a q b (at.Aside parking.Asleep) h = record { carries = refl; somewhere = inr (inl refl) }
+plain_stands l a q b (at.Aside parking.Asleep) h = record { has_taken = refl; somewhere = inr (inl refl) }
 plain_stands l a q b (at.Aside (parking.Taken by)) h = record {
-  carries = refl;
+  has_taken = refl;
   somewhere = inr (inr (by, false, refl));
 }
 plain_stands l a q b (at.Park parking.Check) h = absurd cc
@@ -467,7 +467,7 @@ handed_stands : (l : ℕ) (a : Admission) (x : Access) (how : Patience) (b : Boo
     → act_of (RwLock l a (Handed x how b to)) ≡ act.Sleep
     → StandsSomewhere (profile (RwLock l a (Handed x how b to)))
 handed_stands l a x how b (handed.Asleep by alone) h = record {
-  carries = refl;
+  has_taken = refl;
   somewhere = inr (inr (by, true, refl));
 }
 handed_stands l a x how b handed.Accept h = absurd (accept_wakes l x h)
@@ -483,7 +483,7 @@ sleepers_stand (Mutex l (mutex.HandOff bumps to)) stands h = absurd (hand_off_wa
 sleepers_stand (RwLock l a (Plain p)) stands h = plain_stands l a p.purpose p.retries p.at h
 sleepers_stand (RwLock l a (Bump p)) stands h = let s = plain_stands l a p.purpose p.retries p.at h
     in record {
-      carries = s.carries;
+      has_taken = s.has_taken;
       somewhere = s.somewhere;
     }
 sleepers_stand (RwLock l a (Handed x how b to)) stands h = handed_stands l a x how b to h

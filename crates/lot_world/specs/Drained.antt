@@ -8,8 +8,8 @@ use Rattle.spec_locks.specs.Sites.{Role, Site, IsSite, is_full, after_deed, Need
 -- a thread that is in no call, or sleeps: it is to wake nobody, has nobody in hand, and wasn't woken
 pub record IsResting (d : Role) : Type 0 where
   pub wakes : d.wakes ≡ None
-  pub carries : d.carries ≡ false
-  pub covers : d.covers ≡ false
+  pub has_taken : d.has_taken ≡ false
+  pub owes_taken : d.owes_taken ≡ false
   pub retries : d.retries ≡ None
 
 -- nobody owns anything, but a writer that is pending, and then somebody stands aside

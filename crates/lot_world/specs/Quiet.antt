@@ -40,6 +40,6 @@ pub record IsAllOver (w : State) : Type 0 where
   pub queues : (m : Line) → queue_at w (key_of 0 m) ≡ []
   pub owners : (t : ℕ) → rights_of (lock_state w 0) t ≡ no_rights
 
--- then it is over
+-- the drain is over then
 abbrev pub QuietIsOver : Type 0
 QuietIsOver = (w : State) → IsDraining w → IsQuiet w → IsAllOver w

@@ -17,7 +17,7 @@ pub record HasOwnersThere (w : State) : Type 0 where
   pub past : (t : ℕ) → length w.places ≤ t → rights_of (lock_state w 0) t ≡ no_rights
   pub unpending : (t : ℕ) → PendsInCall (call_at w t).purpose (rights_of (lock_state w 0) t)
 
--- they hold of every world of one lock, whatever steps it has taken
+-- promises hold of every world of one lock, whatever steps it has taken
 abbrev pub ReachedHaveOwners : Type 0
 ReachedHaveOwners =
     (kind : Kind) (threads : ℕ) (steps : List Step) → Drains (rules_of kind).sort → 1 ≤ threads

@@ -41,7 +41,7 @@ PendingOwnNothing =
 
 -- a thread stands in a line, or is in a hand, and has nobody in its own
 pub record StandsSomewhere (row : Profile) : Type 0 where
-  pub carries : row.carries ≡ None
+  pub has_taken : row.has_taken ≡ None
   pub somewhere : (row.stands ≡ Some Main) ⊎ ((row.stands ≡ Some Second)
       ⊎ ((by : ℕ) × (handed : Bool) × (row.hand ≡ hand by handed)))
 

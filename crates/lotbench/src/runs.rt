@@ -201,7 +201,7 @@ fn operate<const SECOND: bool, R: Wait>(
         Mode::Semaphore => hold_permit::<SECOND, _>(rt, &bench.semaphores.one, token, times),
         Mode::Semaphore2 => hold_permit::<SECOND, _>(rt, &bench.semaphores.two, token, times),
         Mode::Notify => notify_nobody::<SECOND, _>(rt, &bench.desk.filled, token, times),
-        // These share no operations in batches.
+        // The modes that share no operations in batches.
         Mode::NotifyAll | Mode::PingPong | Mode::ManyTurns | Mode::Queue => (),
     }
 }

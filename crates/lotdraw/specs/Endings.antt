@@ -4,7 +4,7 @@ use Rattle.lot_picture.specs.declared.lines.Failure.{Failure}
 use Rattle.lot_picture.specs.declared.lines.Failure.TheVariants.{Malformed, NoMemory, Unread, Undrawn}
 use Rattle.lot_picture.specs.declared.lines.Failure.TheVariants.{Unwritten}
 use Rattle.lotdraw.specs.declared.start.Unfit.{Unfit}
-use Rattle.lotdraw.specs.declared.start.Unfit as unfit
+use Rattle.lotdraw.specs.declared.start.Unfit.TheVariants as unfit
 
 -- whether a line has another form
 abbrev pub is_malformed : Failure → Bool
@@ -16,5 +16,5 @@ is_malformed Unwritten = false
 
 -- whether nothing may be written: a line has another form, or what was asked for isn't in the schedule
 abbrev pub is_silent : Unfit → Bool
-is_silent (unfit.TheVariants.Failed failure) = is_malformed failure
-is_silent (unfit.TheVariants.Lacks said) = true
+is_silent (unfit.Failed failure) = is_malformed failure
+is_silent (unfit.Lacks said) = true

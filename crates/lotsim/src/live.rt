@@ -19,7 +19,7 @@ use std::thread::Threads;
 /// The readers met.
 pub const DONE: u8 = 0;
 
-/// They did not.
+/// The threads did not agree.
 pub const NOT_MET: u8 = 1;
 
 /// Memory or a thread was refused.

@@ -117,7 +117,7 @@ impl ParkingLot {
 
     /// Begins a call, by the word that a schedule has for it: forgets the last section, and waits for
     /// the thread's turn where it is directed. The call's first step then asks no more
-    /// (`word_again`).
+    /// (`step_word_unrecorded`).
     #[inline]
     #[tactic(auto, unfolding(crate::specs::Tokens::view_of))]
     pub fn begins(&self, token: &mut Token, deed: &'static Deed, word: Word)

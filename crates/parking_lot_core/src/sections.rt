@@ -47,7 +47,7 @@ pub struct Section<'a> {
     pub(crate) lot: &'a ParkingLot,
     // The bucket of a key: of the one of which it takes or moves waiters, once it did so.
     pub(crate) first: MutexGuard<'a, SectionQueues>,
-    // That of the other key, where it is another.
+    // The bucket of the other key, where it is another.
     pub(crate) other: Option<MutexGuard<'a, SectionQueues>>,
     pub(crate) keys: Keys,
     // The thread that is inside.

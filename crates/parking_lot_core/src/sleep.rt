@@ -50,9 +50,9 @@ pub enum Slept<'a> {
 enum Nap<'a> {
     // The thread slept a while.
     Paused,
-    // Its time is up. It is inside the section of the key where it stands.
+    // The time of the waiter is up, and it is inside the section of the key where it stands.
     Late(Section<'a>, Key),
-    // Its time is up, and it was taken before.
+    // The time of the waiter is up, and it was taken before.
     Taken,
 }
 

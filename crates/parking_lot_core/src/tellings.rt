@@ -18,7 +18,7 @@ use std::marker::Model;
 /// An act of a thread on the queues, with what it found or did there; a visit of a section; or a sleep.
 #[derive(Drop)]
 pub enum Telling {
-    /// This thread stood after the last under the key.
+    /// The thread stood after the last under the key.
     Stood {
         key: Key,
         thread: usize,
@@ -30,12 +30,12 @@ pub enum Telling {
         taken: usize,
         moved: usize,
     },
-    /// This many stood under the key.
+    /// How many stood under the key.
     Counted {
         key: Key,
         number: usize,
     },
-    /// This thread left the queue where it stood.
+    /// The thread left the queue where it stood.
     Left {
         thread: usize,
     },

@@ -31,7 +31,7 @@ impl ParkingLot {
     /// that locks a mutex the permit of its value goes out with the thread, and with the one that
     /// unlocks it it lies in its slot again.
     #[inline]
-    pub fn word(&self, token: &mut Token, word: Word, op: Op) -> u64
+    pub fn step_word(&self, token: &mut Token, word: Word, op: Op) -> u64
         requires own { IsTokenOf self.now token.old × IsWordOf self.now.words word }
         requires may { MayStep word.kind (word_index word.number word.kind) op
             (view_of token.old).owns }
@@ -47,13 +47,13 @@ impl ParkingLot {
             (view_of token.old).owns }
     {
         self.forget_section(token, &Deed::Step, word.index());
-        self.word_again(token, word, op)
+        self.step_word_unrecorded(token, word, op)
     }
 
     /// Steps as a thread that has stepped on a word since it left its last section, so that there
     /// is none to forget.
     #[inline]
-    pub fn word_again(&self, token: &mut Token, word: Word, op: Op) -> u64
+    pub fn step_word_unrecorded(&self, token: &mut Token, word: Word, op: Op) -> u64
         requires own { IsTokenOf self.now token.old × IsWordOf self.now.words word }
         requires may { MayStep word.kind (word_index word.number word.kind) op
             (view_of token.old).owns }
@@ -109,7 +109,7 @@ impl ParkingLot {
     {
         condvar_may_step();
         let to = mutex.number() as u64 + 1;
-        self.word(token, condvar, Op::Exchange { from: 0, to })
+        self.step_word(token, condvar, Op::Exchange { from: 0, to })
     }
 
     /// Looks what a condition variable shows, by one load of its word, as a thread that has forgotten
@@ -327,7 +327,7 @@ impl ParkingLot {
     /// What the step saw, where it wasn't an unlocked mutex without waiters. 0 where no step is taken:
     /// a directed thread waits for its turn first (`turn_to_begin`).
     #[inline]
-    pub fn enter_open(&self, token: &mut Token, word: Word) -> Result<(OpenHeld, Permit), u64>
+    pub fn lock_with_permit(&self, token: &mut Token, word: Word) -> Result<(OpenHeld, Permit), u64>
         requires { IsTokenOf self.now token.old × IsWordOf self.now.words word
             × (word.kind ≡ Mutex) }
         ensures own { IsSameThread self.now token.old token.new × (last_of token.new ≡ None) }
@@ -343,7 +343,7 @@ impl ParkingLot {
             × (taken.1.id ≡ permit_of self.now.words word)) }
     {
         let unlocked = u64::from(token.expected.unlocked);
-        match self.words.enter_open(&mut token.seat, word, unlocked) {
+        match self.words.lock_with_permit(&mut token.seat, word, unlocked) {
             Ok(taken) => Ok(taken),
             // The token is asked again: what it expects is kept nowhere past the step.
             Err(seen) if token.is_armed() => Err(seen),
@@ -375,13 +375,17 @@ impl ParkingLot {
         ensures opened { IfOk result (λ taken. IsOpenOf self.now.words word taken.0
             × (taken.1.id ≡ permit_of self.now.words word)) }
     {
-        self.words.enter_open(&mut token.seat, word, 0)
+        self.words.lock_with_permit(&mut token.seat, word, 0)
     }
 
     /// Locks where others may wait. Returns what the step saw, and writes nothing to a mutex that
     /// it sees locked.
     #[inline]
-    pub fn try_enter_open(&self, token: &mut Token, word: Word) -> (u64, Option<(OpenHeld, Permit)>)
+    pub fn try_lock_with_permit(
+        &self,
+        token: &mut Token,
+        word: Word,
+    ) -> (u64, Option<(OpenHeld, Permit)>)
         requires { IsTokenOf self.now token.old × IsWordOf self.now.words word
             × (word.kind ≡ Mutex) }
         ensures own { IsSameThread self.now token.old token.new × (last_of token.new ≡ None) }
@@ -396,14 +400,20 @@ impl ParkingLot {
         if !token.is_armed() {
             self.pass(token, &Deed::Call(CallName::TryLock), word.index());
         }
-        self.words.try_enter_open(&mut token.seat, word)
+        self.words.try_lock_with_permit(&mut token.seat, word)
     }
 
     /// Gives a mutex up, and lays the permit of its value back with the same step. Returns the
     /// value before, or 0 where no step is taken: a directed thread waits for its turn first, and its
     /// token's view names the mutex.
     #[inline]
-    pub fn leave_open(&self, token: &mut Token, word: Word, opened: OpenHeld, permit: Permit) -> u64
+    pub fn unlock_with_permit(
+        &self,
+        token: &mut Token,
+        word: Word,
+        opened: OpenHeld,
+        permit: Permit,
+    ) -> u64
         requires own { IsTokenOf self.now token.old × IsWordOf self.now.words word
             × (word.kind ≡ Mutex) }
         requires opened { IsOpenOf self.now.words word opened
@@ -418,7 +428,7 @@ impl ParkingLot {
     {
         let locked = u64::from(token.expected.locked);
         let words = &self.words;
-        match words.leave_open(&mut token.seat, word, opened, permit, locked) {
+        match words.unlock_with_permit(&mut token.seat, word, opened, permit, locked) {
             Ok(seen) => seen,
             Err((opened, permit)) if token.may_step() => {
                 self.leave_now(token, word, opened, permit)
@@ -434,7 +444,7 @@ impl ParkingLot {
     /// is out with the thread still. So it is where 0 is returned and no step is taken: a directed
     /// thread waits for its turn first.
     #[inline]
-    pub fn leave_open_alone(
+    pub fn unlock_if_alone(
         &self,
         token: &mut Token,
         word: Word,
@@ -455,7 +465,7 @@ impl ParkingLot {
     {
         let locked = u64::from(token.expected.locked);
         let words = &self.words;
-        match words.leave_open_alone(&mut token.seat, word, opened, permit, locked) {
+        match words.unlock_if_alone(&mut token.seat, word, opened, permit, locked) {
             Ok(seen) => seen,
             Err((opened, permit)) if token.may_step() => {
                 self.leave_alone_now(token, word, opened, permit)
@@ -467,7 +477,7 @@ impl ParkingLot {
         }
     }
 
-    /// Gives a mutex up as `leave_open` does, as a thread that has forgotten its last section and has its
+    /// Gives a mutex up as `unlock_with_permit` does, as a thread that has forgotten its last section and has its
     /// turn. Returns the value before.
     pub fn leave_now(&self, token: &mut Token, word: Word, opened: OpenHeld, permit: Permit) -> u64
         requires own { IsTokenOf self.now token.old × IsWordOf self.now.words word
@@ -483,14 +493,14 @@ impl ParkingLot {
     {
         match self
             .words
-            .leave_open(&mut token.seat, word, opened, permit, 1)
+            .unlock_with_permit(&mut token.seat, word, opened, permit, 1)
         {
             Ok(seen) => seen,
             Err(_) => unreachable!(),
         }
     }
 
-    /// Gives a mutex up as `leave_open_alone` does, as a thread that has forgotten its last section and
+    /// Gives a mutex up as `unlock_if_alone` does, as a thread that has forgotten its last section and
     /// has its turn. Returns the value before.
     pub fn leave_alone_now(
         &self,
@@ -511,7 +521,7 @@ impl ParkingLot {
     {
         match self
             .words
-            .leave_open_alone(&mut token.seat, word, opened, permit, 1)
+            .unlock_if_alone(&mut token.seat, word, opened, permit, 1)
         {
             Ok(seen) => seen,
             Err(_) => unreachable!(),

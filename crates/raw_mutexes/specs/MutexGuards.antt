@@ -17,7 +17,7 @@ abbrev pub IsGuardOf : ParkingLot → Word → RawGuard → Type 0
 IsGuardOf lot word guard =
     IsOpenOf lot.words word guard.opened × (guard.permit.id ≡ permit_of lot.words word)
 
--- that a guard is a mutex's has one proof at most
+-- the fact that a guard is a mutex's has one proof at most
 pub IsGuardOf-prop : (lot : ParkingLot) (word : Word) (guard : RawGuard)
     → IsProp (IsGuardOf lot word guard)
 IsGuardOf-prop lot word guard = Prim.hlevel props

@@ -2,7 +2,8 @@
 //!
 //! The slow half of `lock` returns no right: it leaves the ownership in the token's view, and `lock`
 //! splits it off, since a place for the right would cost the fast half. `unlock` asks of its
-//! subtraction whether it found 1; an owner finds 1 or 3, so the slow half is told 3.
+//! subtraction whether it found 1; an owner finds 1 or 3, so the slow half is told 3, or 0 where the
+//! thread waits for its turn.
 ghost use Rattle.std.specs.Prelude.{◌≡◌, ◌<◌, ◌*◌, ◌++◌, List, None, true, IfNone, IfSome};
 ghost use Rattle.std.specs.Arc.{arc_value};
 ghost use Rattle.core_clocks.specs.Clocks.{TimeIsUp};
@@ -126,7 +127,7 @@ impl RawMutex {
             (λ seen. HasBegun (word_of self.now).number UnlockFair seen token.old token.new) }
     {
         let RawGuard { opened, permit } = guard;
-        let seen = lot.leave_open_alone(token, self.word, opened, permit);
+        let seen = lot.unlock_if_alone(token, self.word, opened, permit);
         if seen == LOCKED {
             return None;
         }
@@ -263,7 +264,7 @@ impl RawMutex {
         let lot: &ParkingLot = &self.lot;
         lot.turn_to_begin(rt, token, &Deed::Call(CallName::Bump), &self.word);
         let guard = self.split(lot, token);
-        let seen = lot.word_again(token, self.word, Op::Load);
+        let seen = lot.step_word_unrecorded(token, self.word, Op::Load);
         if !is_parked(seen) {
             return guard;
         }
@@ -378,7 +379,7 @@ impl RawMutex {
             (TookNobodyAt (word_of self.now).number (last_of token.new)) }
         ensures late { IfNone result (TimeIsUp C.tells limit.entry) }
     {
-        match self.lot.enter_open(token, self.word) {
+        match self.lot.lock_with_permit(token, self.word) {
             Ok((opened, permit)) => Some(RawGuard { opened, permit }),
             Err(seen) => self.go_on_timed(rt, token, limit, seen),
         }
@@ -535,7 +536,7 @@ impl lock_raw::RawMutex for RawMutex {
 
     #[inline]
     fn try_lock(&self, token: &mut Token) -> Option<RawGuard> {
-        let (_, taken) = self.lot.try_enter_open(token, self.word);
+        let (_, taken) = self.lot.try_lock_with_permit(token, self.word);
         match taken {
             Some((opened, permit)) => Some(RawGuard { opened, permit }),
             None => None,
@@ -569,7 +570,7 @@ impl lock_raw::RawMutex for RawMutex {
 
     #[inline]
     fn lock_fast(&self, token: &mut Token) -> Result<RawGuard, u64> {
-        match self.lot.enter_open(token, self.word) {
+        match self.lot.lock_with_permit(token, self.word) {
             Ok((opened, permit)) => Ok(RawGuard { opened, permit }),
             Err(seen) => Err(seen),
         }
@@ -592,7 +593,7 @@ impl lock_raw::RawMutex for RawMutex {
     #[inline]
     fn unlock_fast(&self, lot: &ParkingLot, token: &mut Token, guard: RawGuard) -> Option<u64> {
         let RawGuard { opened, permit } = guard;
-        let seen = lot.leave_open(token, self.word, opened, permit);
+        let seen = lot.unlock_with_permit(token, self.word, opened, permit);
         if seen == LOCKED {
             return None;
         }
@@ -633,7 +634,7 @@ impl lock_raw::RawMutexFair for RawMutex {
             self.join(lot, token, guard);
             return self.bump_slow(rt, token, NOT_BEGUN);
         }
-        let seen = lot.word_again(token, self.word, Op::Load);
+        let seen = lot.step_word_unrecorded(token, self.word, Op::Load);
         if !is_parked(seen) {
             return guard;
         }

@@ -17,7 +17,7 @@ IsUpgradableOf lot word guard = IsRwLockRight lot word Upgradable guard.right
 abbrev pub IsExclusiveOf : ParkingLot → Word → RawExclusiveGuard → Type 0
 IsExclusiveOf lot word guard = IsRwLockRight lot word Exclusive guard.right
 
--- that a guard is a lock's has one proof at most
+-- the fact that a guard is a lock's has one proof at most
 pub IsSharedOf-prop : (lot : ParkingLot) (word : Word) (guard : RawSharedGuard)
     → IsProp (IsSharedOf lot word guard)
 IsSharedOf-prop lot word guard = Prim.hlevel props

@@ -23,7 +23,7 @@ use Rattle.raw_rwlocks.specs.RwLockUsers.{admission_in, lot_in, word_in}
 use Rattle.raw_rwlocks.specs.declared.rwlock_rights.LotRwLock.{LotRwLock}
 use Rattle.run_locks.specs.Halves.{HasBegunRwLock}
 use Rattle.run_locks.specs.RwLockRefusals.{LeftGivingUp, SawReadersFull}
-use Rattle.run_locks.specs.declared.rwlock_calls.Rest.{Rest}
+use Rattle.run_locks.specs.declared.rwlock_calls.SlowPart.{SlowPart}
 
 -- a call that enters gave this: the right, nothing where it gave up, or that the lock is full
 abbrev pub HasEntered : Type 0 → LotRwLock → Access → Patience → Result (Option Held) Fault → Token
@@ -41,7 +41,7 @@ HasEntered up lock x how entered old new = StaysBeside (word_in lock).number old
     (λ right. IfNone right (LeftGivingUp (word_in lock).number (admission_in lock) (Enter x how) new))
 
 -- a release has joined the right that it spends, and has begun; no queue told it anything meanwhile
-abbrev pub HasBegunRelease : LotRwLock → Access → Rest → Token → Token → Type 0
+abbrev pub HasBegunRelease : LotRwLock → Access → SlowPart → Token → Token → Type 0
 HasBegunRelease lock x rest old new = (joined : Token) × (joined.number ≡ old.number)
     × (view_of joined ≡ takes_in (view_of old)
     (piece (owning (rwlock_at (word_in lock).number) (owner_for (wanted x)))))
@@ -49,7 +49,7 @@ HasBegunRelease lock x rest old new = (joined : Token) × (joined.number ≡ old
     × (told_of joined ≡ told_of old)
 
 -- a call of the world's language has begun, of those that go by halves
-abbrev pub HasBegunCall : LotRwLock → RwLockCall → Rest → Token → Token → Type 0
+abbrev pub HasBegunCall : LotRwLock → RwLockCall → SlowPart → Token → Token → Type 0
 HasBegunCall lock (calls.Enter x how) rest old new =
     HasBegunRwLock (word_in lock) (admission_in lock) (Enter x how) rest old new
 HasBegunCall lock (calls.Release x) rest old new = HasBegunRelease lock x rest old new

@@ -8,7 +8,7 @@ use crate::rwlock_guards::{RawExclusiveGuard, RawSharedGuard, RawUpgradableGuard
 use lock_values::{Place, Seen, calls};
 use parking_lot_core::{Fault, Token, Want};
 use run_base::driver::FOR_EVER;
-use run_locks::rwlock_calls::Rest;
+use run_locks::rwlock_calls::SlowPart;
 use spec_locks::{Access, Downgrade, Patience};
 use std::sync::Wait;
 
@@ -53,7 +53,7 @@ impl lock_raw::RawRwLockUpgrade for RawRwLock<false> {
         }
     }
 
-    #[inline]
+    #[inline(always)]
     fn unlock_upgradable<R: Wait>(&self, rt: &R, token: &mut Token, guard: RawUpgradableGuard) {
         if let Some(rest) = self.unlock_upgradable_fast(token, guard) {
             self.lock.release_slow(rt, token, Access::Upgradable, rest);
@@ -64,7 +64,7 @@ impl lock_raw::RawRwLockUpgrade for RawRwLock<false> {
     fn lock_upgradable_fast(
         &self,
         token: &mut Token,
-    ) -> Result<Result<RawUpgradableGuard, Fault>, Rest> {
+    ) -> Result<Result<RawUpgradableGuard, Fault>, SlowPart> {
         match self
             .lock
             .enter_fast(token, FOR_EVER, Access::Upgradable, Patience::Patient)
@@ -81,7 +81,7 @@ impl lock_raw::RawRwLockUpgrade for RawRwLock<false> {
         &self,
         rt: &R,
         token: &mut Token,
-        rest: Rest,
+        rest: SlowPart,
     ) -> Result<RawUpgradableGuard, Fault> {
         let (access, patience) = (Access::Upgradable, Patience::Patient);
         match self
@@ -95,7 +95,11 @@ impl lock_raw::RawRwLockUpgrade for RawRwLock<false> {
     }
 
     #[inline(always)]
-    fn unlock_upgradable_fast(&self, token: &mut Token, guard: RawUpgradableGuard) -> Option<Rest> {
+    fn unlock_upgradable_fast(
+        &self,
+        token: &mut Token,
+        guard: RawUpgradableGuard,
+    ) -> Option<SlowPart> {
         let RawUpgradableGuard { right } = guard;
         self.lock.release_fast(token, Access::Upgradable, right)
     }

@@ -21,7 +21,7 @@ use lock_raw::RawRwLockHalves;
 use lock_values::{Open, Place, Seen, calls};
 use parking_lot_core::{Fault, ParkingLot, Token, Want};
 use run_base::driver::FOR_EVER;
-use run_locks::rwlock_calls::Rest;
+use run_locks::rwlock_calls::SlowPart;
 use spec_locks::{Access, Downgrade, Patience};
 use std::sync::{Arc, Wait};
 use steps_base::bits::{count_in, has_writer};
@@ -39,7 +39,7 @@ impl lock_raw::RawRwLockHalves for RawRwLock<true> {
 
     type ExclusiveGuard = RawExclusiveGuard;
 
-    type Rest = Rest;
+    type SlowPart = SlowPart;
 
     ghost lot_of = { lot_at };
 
@@ -75,7 +75,10 @@ impl lock_raw::RawRwLockHalves for RawRwLock<true> {
         (admission_of lock) access old new };
 
     #[inline(always)]
-    fn lock_shared_fast(&self, token: &mut Token) -> Result<Result<RawSharedGuard, Fault>, Rest> {
+    fn lock_shared_fast(
+        &self,
+        token: &mut Token,
+    ) -> Result<Result<RawSharedGuard, Fault>, SlowPart> {
         match self
             .lock
             .enter_fast(token, FOR_EVER, Access::Shared, Patience::Patient)
@@ -92,7 +95,7 @@ impl lock_raw::RawRwLockHalves for RawRwLock<true> {
         &self,
         rt: &R,
         token: &mut Token,
-        rest: Rest,
+        rest: SlowPart,
     ) -> Result<RawSharedGuard, Fault> {
         let (access, patience) = (Access::Shared, Patience::Patient);
         match self
@@ -106,7 +109,7 @@ impl lock_raw::RawRwLockHalves for RawRwLock<true> {
     }
 
     #[inline(always)]
-    fn lock_exclusive_fast(&self, token: &mut Token) -> Result<RawExclusiveGuard, Rest> {
+    fn lock_exclusive_fast(&self, token: &mut Token) -> Result<RawExclusiveGuard, SlowPart> {
         match self
             .lock
             .enter_fast(token, FOR_EVER, Access::Exclusive, Patience::Patient)
@@ -122,7 +125,7 @@ impl lock_raw::RawRwLockHalves for RawRwLock<true> {
         &self,
         rt: &R,
         token: &mut Token,
-        rest: Rest,
+        rest: SlowPart,
     ) -> RawExclusiveGuard {
         let (access, patience) = (Access::Exclusive, Patience::Patient);
         match self
@@ -135,19 +138,23 @@ impl lock_raw::RawRwLockHalves for RawRwLock<true> {
     }
 
     #[inline(always)]
-    fn unlock_shared_fast(&self, token: &mut Token, guard: RawSharedGuard) -> Option<Rest> {
+    fn unlock_shared_fast(&self, token: &mut Token, guard: RawSharedGuard) -> Option<SlowPart> {
         let RawSharedGuard { right } = guard;
         self.lock.release_fast(token, Access::Shared, right)
     }
 
     #[inline(always)]
-    fn unlock_exclusive_fast(&self, token: &mut Token, guard: RawExclusiveGuard) -> Option<Rest> {
+    fn unlock_exclusive_fast(
+        &self,
+        token: &mut Token,
+        guard: RawExclusiveGuard,
+    ) -> Option<SlowPart> {
         let RawExclusiveGuard { right } = guard;
         self.lock.release_fast(token, Access::Exclusive, right)
     }
 
     #[inline(always)]
-    fn unlock_slow<R: Wait>(&self, rt: &R, token: &mut Token, access: Access, rest: Rest) {
+    fn unlock_slow<R: Wait>(&self, rt: &R, token: &mut Token, access: Access, rest: SlowPart) {
         self.lock.release_slow(rt, token, access, rest);
     }
 
@@ -263,7 +270,7 @@ impl lock_raw::RawRwLock for RawRwLock<true> {
         }
     }
 
-    #[inline]
+    #[inline(always)]
     fn unlock_shared<R: Wait>(&self, rt: &R, token: &mut Token, guard: RawSharedGuard) {
         if let Some(rest) = self.unlock_shared_fast(token, guard) {
             self.unlock_slow(rt, token, Access::Shared, rest);
@@ -278,7 +285,7 @@ impl lock_raw::RawRwLock for RawRwLock<true> {
         }
     }
 
-    #[inline]
+    #[inline(always)]
     fn unlock_exclusive<R: Wait>(&self, rt: &R, token: &mut Token, guard: RawExclusiveGuard) {
         if let Some(rest) = self.unlock_exclusive_fast(token, guard) {
             self.unlock_slow(rt, token, Access::Exclusive, rest);

@@ -37,7 +37,7 @@ use parking_lot_core::{
     CallName, Clock, Deed, Fault, Held, Key, Op, ParkingLot, Sort, Token, Want, Word, WordKind,
 };
 use run_base::driver::{FOR_EVER, first_step};
-use run_locks::rwlock_calls::{Rest, call, call_fast, call_in_turn, call_slow, missed};
+use run_locks::rwlock_calls::{SlowPart, call, call_fast, call_in_turn, call_slow, missed};
 use run_locks::rwlock_courses::{Settings, greater, lesser};
 use run_locks::rwlock_fair_calls::{bump, release_exclusive, release_upgradable};
 use spec_locks::{Access, Answer, Downgrade, Patience};
@@ -209,7 +209,7 @@ impl LotRwLock {
         limit: &Option<(&C, u64)>,
         access: Access,
         patience: Patience,
-    ) -> Result<Result<Option<Held>, Fault>, Rest>
+    ) -> Result<Result<Option<Held>, Fault>, SlowPart>
         requires { IsTokenOf (lot_in self.now) token.old }
         ensures own { IsTokenOf (lot_in self.now) token.new }
         ensures over { MatchResult result
@@ -235,7 +235,7 @@ impl LotRwLock {
         limit: &Option<(&C, u64)>,
         access: Access,
         patience: Patience,
-        rest: Rest,
+        rest: SlowPart,
     ) -> Result<Option<Held>, Fault>
         requires own { IsTokenOf (lot_in self.now) token.old }
         requires begun { (before : Token) × HasBegunRwLock (word_in self.now) (admission_in self.now)
@@ -251,15 +251,15 @@ impl LotRwLock {
         let (word, admission) = (&self.word, &self.settings.admission);
         let purpose = RwLockPurpose::Enter { access, patience };
         match rest {
-            Rest::GoesOn(seen) => {
+            SlowPart::GoesOn(seen) => {
                 let answer = call_slow(rt, lot, token, word, admission, limit, purpose, seen);
                 self.entered(lot, token, limit, access, patience, answer)
             }
-            Rest::Missed { seen, found } => {
+            SlowPart::Missed { seen, found } => {
                 let answer = missed(rt, lot, token, word, admission, limit, purpose, seen, found);
                 self.entered(lot, token, limit, access, patience, answer)
             }
-            Rest::NotBegun => {
+            SlowPart::NotBegun => {
                 let answer = call_in_turn(rt, lot, token, word, &self.settings, limit, purpose);
                 self.entered(lot, token, limit, access, patience, answer)
             }
@@ -336,7 +336,7 @@ impl LotRwLock {
         token: &mut Token,
         access: Access,
         right: Held,
-    ) -> Option<Rest>
+    ) -> Option<SlowPart>
         requires token { IsTokenOf (lot_in self.now) token.old }
         requires right { IsRwLockRight (lot_in self.now) (word_in self.now)
             (owner_for (wanted access)) right }
@@ -360,7 +360,7 @@ impl LotRwLock {
         rt: &R,
         token: &mut Token,
         access: Access,
-        rest: Rest,
+        rest: SlowPart,
     )
         requires own { IsTokenOf (lot_in self.now) token.old }
         requires begun { (before : Token) × HasBegunRelease self.now access rest
@@ -373,15 +373,15 @@ impl LotRwLock {
         let (word, admission) = (&self.word, &self.settings.admission);
         let purpose = RwLockPurpose::Release(access);
         match rest {
-            Rest::GoesOn(seen) => {
+            SlowPart::GoesOn(seen) => {
                 call_slow(rt, lot, token, word, admission, FOR_EVER, purpose, seen);
             }
-            Rest::Missed { seen, found } => {
+            SlowPart::Missed { seen, found } => {
                 missed(
                     rt, lot, token, word, admission, FOR_EVER, purpose, seen, found,
                 );
             }
-            Rest::NotBegun => {
+            SlowPart::NotBegun => {
                 call_in_turn(rt, lot, token, word, &self.settings, FOR_EVER, purpose);
             }
         }

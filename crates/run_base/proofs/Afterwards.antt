@@ -8,16 +8,16 @@ use Rattle.spec_locks.specs.declared.outcomes.Answer.{Answer}
 use Rattle.spec_locks.specs.declared.outcomes.Answer.TheVariants.{Ok, Yes, No}
 use Rattle.steps_mutex.specs.MutexSteps.{in_unlock, looked, entered, is_timed, is_locked, is_parked}
 use Rattle.lot_steps.specs.Steps.{act_of, next_place, next_act, mutex_goes, mutex_does}
-use Rattle.steps_base.specs.declared.acts.Act as act
-use Rattle.steps_base.specs.declared.acts.Next as next
+use Rattle.steps_base.specs.declared.acts.Act.TheVariants as act
+use Rattle.steps_base.specs.declared.acts.Next.TheVariants as next
 use Rattle.steps_base.specs.declared.acts.Reply.TheVariants.{Value}
 use Rattle.steps_mutex.specs.declared.places.MutexPlace.{MutexPlace}
 use Rattle.steps_mutex.specs.declared.places.MutexPlace.TheVariants as at_mutex
-use Rattle.steps_mutex.specs.declared.hand_off.HandOffAt as hand_off
+use Rattle.steps_mutex.specs.declared.hand_off.HandOffAt.TheVariants as hand_off
 use Rattle.steps_mutex.specs.declared.lock.Entry.{Entry}
-use Rattle.steps_mutex.specs.declared.lock.Entry as entry
-use Rattle.steps_mutex.specs.declared.lock.LockAt as lock
-use Rattle.steps_mutex.specs.declared.unlock.UnlockAt as unlock
+use Rattle.steps_mutex.specs.declared.lock.Entry.TheVariants as entry
+use Rattle.steps_mutex.specs.declared.lock.LockAt.TheVariants as lock
+use Rattle.steps_mutex.specs.declared.unlock.UnlockAt.TheVariants as unlock
 use Rattle.lot_steps.specs.declared.places.Place.{Place}
 use Rattle.lot_steps.specs.declared.places.Place.TheVariants.{Mutex}
 use Rattle.core_words.specs.declared.owners.Ownership.{Ownership}
@@ -46,12 +46,12 @@ use Rattle.run_base.proofs.Unqueued.{after_first}
 
 -- the place after the first step
 abbrev rest : MutexCall → MutexPlace
-rest call.Lock = at_mutex.Lock entry.TheVariants.Lock false lock.TheVariants.Load
-rest call.LockTimed = at_mutex.Lock entry.TheVariants.LockTimed false lock.TheVariants.Load
+rest call.Lock = at_mutex.Lock entry.Lock false lock.Load
+rest call.LockTimed = at_mutex.Lock entry.LockTimed false lock.Load
 rest call.TryLock = at_mutex.TryLock
-rest call.Unlock = at_mutex.Unlock unlock.TheVariants.Enter
-rest call.UnlockFair = at_mutex.HandOff false hand_off.TheVariants.Enter
-rest call.Bump = at_mutex.HandOff true hand_off.TheVariants.Enter
+rest call.Unlock = at_mutex.Unlock unlock.Enter
+rest call.UnlockFair = at_mutex.HandOff false hand_off.Enter
+rest call.Bump = at_mutex.HandOff true hand_off.Enter
 
 -- the first step saw what ends the call
 abbrev pub EndsAt : MutexCall → ℕ → Type 0
@@ -73,8 +73,8 @@ module _ (n : ℕ) where
   goes_to call.LockTimed seen owns g = rw (ne_eqb seen 0 (λ z. omega arith)) refl
   goes_to call.TryLock seen owns g = absurd g
   goes_to call.Unlock seen owns g =
-      ap (λ (b : Bool). mutex_goes n (in_unlock (if b then next.TheVariants.At unlock.TheVariants.Enter
-      else next.TheVariants.End Ok))) g
+      ap (λ (b : Bool). mutex_goes n (in_unlock (if b then next.At unlock.Enter
+      else next.End Ok))) g
   goes_to call.UnlockFair seen owns g = ap (λ (b : Bool). mutex_goes n (looked false (not b)))
       (ne_eqb seen 1 g.0)
   goes_to call.Bump seen owns g = ap (λ (b : Bool). mutex_goes n (looked true b)) g.0
@@ -98,20 +98,20 @@ module _ (n : ℕ) where
   same_aim call.Bump = refl
 
   ends_with : (c : MutexCall) (seen : ℕ) → EndsAt c seen → next_act (beginning n c) (Value seen)
-      ≡ act.TheVariants.End (success c)
+      ≡ act.End (success c)
   ends_with call.Lock seen e = subst (λ (k : ℕ). next_act (beginning n call.Lock) (Value k)
-      ≡ act.TheVariants.End Ok) (sym e) refl
+      ≡ act.End Ok) (sym e) refl
   ends_with call.LockTimed seen e = subst (λ (k : ℕ). next_act (beginning n call.LockTimed) (Value k)
-      ≡ act.TheVariants.End Yes) (sym e) refl
+      ≡ act.End Yes) (sym e) refl
   ends_with call.TryLock seen e = absurd e
   ends_with call.Unlock seen e =
-      ap (λ (b : Bool). mutex_does n (in_unlock (if b then next.TheVariants.At unlock.TheVariants.Enter
-      else next.TheVariants.End Ok))) e
+      ap (λ (b : Bool). mutex_does n (in_unlock (if b then next.At unlock.Enter
+      else next.End Ok))) e
   ends_with call.UnlockFair seen e = subst (λ (k : ℕ). next_act (beginning n call.UnlockFair) (Value k)
-      ≡ act.TheVariants.End Ok) (sym e) refl
+      ≡ act.End Ok) (sym e) refl
   ends_with call.Bump seen e = ap (λ (b : Bool). mutex_does n (looked true b)) e
 
-  begins_with : (c : MutexCall) → act_of (beginning n c) ≡ act.TheVariants.Word n (first_op c)
+  begins_with : (c : MutexCall) → act_of (beginning n c) ≡ act.Word n (first_op c)
   begins_with call.Lock = refl
   begins_with call.LockTimed = refl
   begins_with call.TryLock = refl
@@ -136,11 +136,11 @@ module _ (n : ℕ) where
       (if locked then No else Yes) refl (after_first n call.TryLock seen) saw untold (by_bit locked e)
     where
       by_bit : (locked : Bool) → is_locked seen ≡ locked → next_act (beginning n call.TryLock) (Value seen)
-          ≡ act.TheVariants.End (if locked then No else Yes)
-      by_bit true e = ap (λ (b : Bool). mutex_does n (if b then next.TheVariants.End No
-          else next.TheVariants.End Yes)) e
-      by_bit false e = ap (λ (b : Bool). mutex_does n (if b then next.TheVariants.End No
-          else next.TheVariants.End Yes)) e
+          ≡ act.End (if locked then No else Yes)
+      by_bit true e = ap (λ (b : Bool). mutex_does n (if b then next.End No
+          else next.End Yes)) e
+      by_bit false e = ap (λ (b : Bool). mutex_does n (if b then next.End No
+          else next.End Yes)) e
 
   -- a release that saw a waiter took it
   pub releases_after : (c : MutexCall) (seen : ℕ) (old mid new : List WordStep) (last : Option SectionRecord)

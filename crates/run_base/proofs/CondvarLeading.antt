@@ -12,7 +12,7 @@ use Rattle.steps_condvar.specs.declared.notify.NotifyAt.{NotifyAt}
 use Rattle.spec_locks.specs.declared.outcomes.Answer.{Answer}
 use Rattle.spec_locks.specs.declared.outcomes.Answer.TheVariants.{Ok}
 use Rattle.steps_base.specs.declared.acts.Act.{Act}
-use Rattle.steps_base.specs.declared.acts.Act as act
+use Rattle.steps_base.specs.declared.acts.Act.TheVariants as act
 use Rattle.steps_base.specs.declared.acts.Next.{Next}
 use Rattle.steps_base.specs.declared.acts.Next.TheVariants.{At, End}
 use Rattle.steps_base.specs.declared.acts.Reply.{Reply}
@@ -82,9 +82,9 @@ MutexPlacesLead up = (n : ℕ) (base : List Ownership) (at : MutexPlace) (st : T
 
 -- acts that step on the word of one lock alone
 abbrev OnlyOn : ℕ → Act → Type 0
-OnlyOn m (act.TheVariants.Word l op) = l ≡ m
-OnlyOn m (act.TheVariants.HandOver l op) = ⊥
-OnlyOn m (act.TheVariants.Park l key check how) = l ≡ m
+OnlyOn m (act.Word l op) = l ≡ m
+OnlyOn m (act.HandOver l op) = ⊥
+OnlyOn m (act.Park l key check how) = l ≡ m
 OnlyOn m a = Unit {0}
 
 only_lock : (m : ℕ) (at : LockAt) → OnlyOn m (lock_act m at)
@@ -92,8 +92,8 @@ only_lock m lock.First = refl
 only_lock m lock.Load = refl
 only_lock m (lock.Decide seen) = by_bits (not (is_locked seen)) (seen == 1)
   where
-    by_bits : (b e : Bool) → OnlyOn m (if b then act.TheVariants.Word m (Exchange seen (seen + 1)) else if e
-        then act.TheVariants.Word m (Exchange 1 3) else act.TheVariants.Enter (One (2 * m)))
+    by_bits : (b e : Bool) → OnlyOn m (if b then act.Word m (Exchange seen (seen + 1)) else if e
+        then act.Word m (Exchange 1 3) else act.Enter (One (2 * m)))
     by_bits true e = refl
     by_bits false true = refl
     by_bits false false = tt
@@ -120,8 +120,8 @@ no_end m lock.First = refl
 no_end m lock.Load = refl
 no_end m (lock.Decide seen) = by_bits (not (is_locked seen)) (seen == 1)
   where
-    by_bits : (b e : Bool) → answer_of (if b then act.TheVariants.Word m (Exchange seen (seen + 1)) else if e
-        then act.TheVariants.Word m (Exchange 1 3) else act.TheVariants.Enter (One (2 * m))) ≡ None
+    by_bits : (b e : Bool) → answer_of (if b then act.Word m (Exchange seen (seen + 1)) else if e
+        then act.Word m (Exchange 1 3) else act.Enter (One (2 * m))) ≡ None
     by_bits true e = refl
     by_bits false true = refl
     by_bits false false = refl
@@ -156,20 +156,20 @@ module _ (up : Type 0) (c m : ℕ) (kinds : ℕ → WordKind) (at : ℕ → ℕ)
 
   needs_there : (st : ThreadState) (a : Act) → OnlyOn m a → ActNeeds mutexes (at_mutex m) st a
       → ActNeeds kinds at st a
-  needs_there st (act.TheVariants.Word l op) o n = subst (λ (l : ℕ). MayStep (kinds l) (at l) op st.owns)
+  needs_there st (act.Word l op) o n = subst (λ (l : ℕ). MayStep (kinds l) (at l) op st.owns)
       (sym o) (may_there op st.owns n)
-  needs_there st (act.TheVariants.HandOver l op) o n = absurd o
-  needs_there st (act.TheVariants.Park l key check how) o n =
+  needs_there st (act.HandOver l op) o n = absurd o
+  needs_there st (act.Park l key check how) o n =
       (subst (λ (l : ℕ). MayStep (kinds l) (at l) Load st.owns) (sym o) (may_there Load st.owns n.0), n.1)
-  needs_there st (act.TheVariants.Enter keys) o n = n
-  needs_there st (act.TheVariants.Stand key how) o n = n
-  needs_there st (act.TheVariants.Take key who) o n = n
-  needs_there st (act.TheVariants.Requeue from to how) o n = n
-  needs_there st (act.TheVariants.Remove key) o n = n
-  needs_there st (act.TheVariants.Leave keys wakes) o n = n
-  needs_there st act.TheVariants.Sleep o n = n
-  needs_there st act.TheVariants.Accept o n = n
-  needs_there st (act.TheVariants.Closure state) o n = n
+  needs_there st (act.Enter keys) o n = n
+  needs_there st (act.Stand key how) o n = n
+  needs_there st (act.Take key who) o n = n
+  needs_there st (act.Requeue from to how) o n = n
+  needs_there st (act.Remove key) o n = n
+  needs_there st (act.Leave keys wakes) o n = n
+  needs_there st act.Sleep o n = n
+  needs_there st act.Accept o n = n
+  needs_there st (act.Closure state) o n = n
   needs_there st a o n = absurd n
 
   awoke_there : (sleeper : Sleeper) → sleeper.lock ≡ m → (st new : ThreadState) (reply : Reply)
@@ -182,31 +182,31 @@ module _ (up : Type 0) (c m : ℕ) (kinds : ℕ → WordKind) (at : ℕ → ℕ)
   became_there : (sleeper : Sleeper) → sleeper.lock ≡ m → (st new : ThreadState) (a : Act) → OnlyOn m a
       → (reply : Reply) → Became up kinds at sleeper st a reply new → Became up mutexes (at_mutex m) sleeper
       st a reply new
-  became_there s is st new (act.TheVariants.Word l op) o (Value seen) b = stepped_there op seen st new
+  became_there s is st new (act.Word l op) o (Value seen) b = stepped_there op seen st new
       (subst (λ (l : ℕ). Stepped (kinds l) (at l) op seen st new) o b)
-  became_there s is st new (act.TheVariants.Word l op) o reply b = absurd b
-  became_there s is st new (act.TheVariants.HandOver l op) o reply b = absurd o
-  became_there s is st new (act.TheVariants.Park l key check how) o (Parked parked) b = (
+  became_there s is st new (act.Word l op) o reply b = absurd b
+  became_there s is st new (act.HandOver l op) o reply b = absurd o
+  became_there s is st new (act.Park l key check how) o (Parked parked) b = (
     b.0,
     b.1,
     stepped_there Load b.0 st new (subst (λ (l : ℕ). Stepped (kinds l) (at l) Load b.0 st new) o
         b.2),
   )
-  became_there s is st new (act.TheVariants.Park l key check how) o reply b = absurd b
-  became_there s is st new (act.TheVariants.Enter keys) o Done b = b
-  became_there s is st new (act.TheVariants.Enter keys) o reply b = absurd b
-  became_there s is st new (act.TheVariants.Stand key how) o Done b = b
-  became_there s is st new (act.TheVariants.Stand key how) o reply b = absurd b
-  became_there s is st new (act.TheVariants.Take key who) o reply b = b
-  became_there s is st new (act.TheVariants.Requeue from to how) o (Requeued number none_left) b = b
-  became_there s is st new (act.TheVariants.Requeue from to how) o reply b = absurd b
-  became_there s is st new (act.TheVariants.Remove key) o (Removed none_left) b = b
-  became_there s is st new (act.TheVariants.Remove key) o reply b = absurd b
-  became_there s is st new (act.TheVariants.Leave keys wakes) o Done b = b
-  became_there s is st new (act.TheVariants.Leave keys wakes) o reply b = absurd b
-  became_there s is st new act.TheVariants.Sleep o reply b = awoke_there s is st new reply b
-  became_there s is st new act.TheVariants.Accept o Done b = b
-  became_there s is st new act.TheVariants.Accept o reply b = absurd b
+  became_there s is st new (act.Park l key check how) o reply b = absurd b
+  became_there s is st new (act.Enter keys) o Done b = b
+  became_there s is st new (act.Enter keys) o reply b = absurd b
+  became_there s is st new (act.Stand key how) o Done b = b
+  became_there s is st new (act.Stand key how) o reply b = absurd b
+  became_there s is st new (act.Take key who) o reply b = b
+  became_there s is st new (act.Requeue from to how) o (Requeued number none_left) b = b
+  became_there s is st new (act.Requeue from to how) o reply b = absurd b
+  became_there s is st new (act.Remove key) o (Removed none_left) b = b
+  became_there s is st new (act.Remove key) o reply b = absurd b
+  became_there s is st new (act.Leave keys wakes) o Done b = b
+  became_there s is st new (act.Leave keys wakes) o reply b = absurd b
+  became_there s is st new act.Sleep o reply b = awoke_there s is st new reply b
+  became_there s is st new act.Accept o Done b = b
+  became_there s is st new act.Accept o reply b = absurd b
   became_there s is st new a o reply b = absurd b
 
   module _ (base : List Ownership) (st new : ThreadState) where
@@ -427,7 +427,7 @@ module _ (up : Type 0) (c m : ℕ) (kinds : ℕ → WordKind) (at : ℕ → ℕ)
       wait_leads (wait.Asleep stands.Listed) f Late b = late_here timed b
         where
           late_here : (t : Bool) → Became up kinds at
-              (sleeper_at (Condvar c (Wait m t (wait.Asleep stands.Listed)))) st act.TheVariants.Sleep Late
+              (sleeper_at (Condvar c (Wait m t (wait.Asleep stands.Listed)))) st act.Sleep Late
               new → ReachedBy up base (of_wait c m t) (Condvar c (Wait m t wait.Remove)) None new
           late_here true b = (((refl, b.2), late_in (2 * c) b.0 b.1.0 f b.1.1), refl)
           late_here false b = absurd (nobody b.1.0)
@@ -438,7 +438,7 @@ module _ (up : Type 0) (c m : ℕ) (kinds : ℕ → WordKind) (at : ℕ → ℕ)
       wait_leads (wait.Asleep stands.Moved) f Late b = late_there timed b
         where
           late_there : (t : Bool) → Became up kinds at
-              (sleeper_at (Condvar c (Wait m t (wait.Asleep stands.Moved)))) st act.TheVariants.Sleep Late new
+              (sleeper_at (Condvar c (Wait m t (wait.Asleep stands.Moved)))) st act.Sleep Late new
               → ReachedBy up base (of_wait c m t) (Condvar c (Wait m t wait.RemoveMoved)) None new
           late_there true b = (late_in (2 * m) b.0 b.1.0 f b.1.1, refl)
           late_there false b = absurd (nobody b.1.0)
@@ -511,11 +511,11 @@ module _ (up : Type 0) (c m : ℕ) (kinds : ℕ → WordKind) (at : ℕ → ℕ)
       sets_3 = each_code (λ n. owns_after_step kind.Mutex (mutex_at m) (Exchange 3 3) n st.owns ≡ st.owns)
           refl refl refl refl
 
-      sets : (s : ℕ) → (s ≡ 1) ⊎ (s ≡ 3) → (n : ℕ) → n < 4 → owns_after_step kind.Mutex (mutex_at m)
+      bit_pending : (s : ℕ) → (s ≡ 1) ⊎ (s ≡ 3) → (n : ℕ) → n < 4 → owns_after_step kind.Mutex (mutex_at m)
           (Exchange s 3) n st.owns ≡ st.owns
-      sets s (inl e) n h = subst (λ (s : ℕ). owns_after_step kind.Mutex (mutex_at m) (Exchange s 3) n st.owns
+      bit_pending s (inl e) n h = subst (λ (s : ℕ). owns_after_step kind.Mutex (mutex_at m) (Exchange s 3) n st.owns
           ≡ st.owns) (sym e) (sets_1 n h)
-      sets s (inr e) n h = subst (λ (s : ℕ). owns_after_step kind.Mutex (mutex_at m) (Exchange s 3) n st.owns
+      bit_pending s (inr e) n h = subst (λ (s : ℕ). owns_after_step kind.Mutex (mutex_at m) (Exchange s 3) n st.owns
           ≡ st.owns) (sym e) (sets_3 n h)
 
       sets_bit : (n : ℕ) → n < 4 → owns_after_step kind.Mutex (mutex_at m) (Or 2) n st.owns ≡ st.owns
@@ -605,7 +605,7 @@ module _ (up : Type 0) (c m : ℕ) (kinds : ℕ → WordKind) (at : ℕ → ℕ)
       requeues : (a locked : Bool) (from to : ℕ) (how : Requeue) (number : ℕ) (left : Bool)
           → did.Requeue from to how ≡ move_did a locked c m → InBothSections c m base st
           → Became up kinds at (sleeper_at (Condvar c (Notify a m (notify.Move locked)))) st
-          (act.TheVariants.Requeue from to how) (Requeued number left) new → (t : ℕ)
+          (act.Requeue from to how) (Requeued number left) new → (t : ℕ)
           → TellsNumber a t number → HasMovedInSection c m a t base new
       requeues a locked from to how number left same f b t tells = moved_so a t locked (listed b.0) b.1
           (owns_of _ b.3 ∙ f.0)
@@ -701,7 +701,7 @@ module _ (up : Type 0) (c m : ℕ) (kinds : ℕ → WordKind) (at : ℕ → ℕ)
       notify_leads (notify.Set expected) f (Value seen) b = by_bit (seen == expected)
         where
           k : (seen < 4) × InBothSections c m base new
-          k = marks_on (Exchange expected 3) seen (sets expected f.0) b f.1
+          k = marks_on (Exchange expected 3) seen (bit_pending expected f.0) b f.1
 
           all_moves : (a : Bool) → ReachedBy up base (of_notify c m a)
               (Condvar c (Notify a m (notify.Move true))) (answer_of (move_act a true c m)) new

@@ -7,7 +7,7 @@ use Rattle.core_base.specs.declared.ops.Op.{Op}
 use Rattle.core_words.specs.declared.views.WordStep.{WordStep}
 use Rattle.lot_steps.specs.Steps.{act_of, next_place, next_act}
 use Rattle.steps_base.specs.declared.acts.Act.{Act}
-use Rattle.steps_base.specs.declared.acts.Act as act
+use Rattle.steps_base.specs.declared.acts.Act.TheVariants as act
 use Rattle.steps_base.specs.declared.acts.Reply.{Reply}
 use Rattle.steps_base.specs.declared.acts.Reply.TheVariants.{Late, MovedTo, Value, Woken}
 use Rattle.spec_locks.specs.declared.outcomes.Answer.{Answer}
@@ -73,9 +73,9 @@ sleeps_no_step me reply items none = absurd none
 -- beside its step on a word an act takes none
 does_no_step : (me : ℕ) (a : Act) (reply : Reply) (items : List PathItem) → Performs me a reply items
     → steps_in items ≡ []
-does_no_step me (act.TheVariants.Enter keys) reply items does = ap steps_in does
-does_no_step me (act.TheVariants.Leave keys wakes) reply items does = ap steps_in does
-does_no_step me act.TheVariants.Sleep reply items does = sleeps_no_step me reply items does
+does_no_step me (act.Enter keys) reply items does = ap steps_in does
+does_no_step me (act.Leave keys wakes) reply items does = ap steps_in does
+does_no_step me act.Sleep reply items does = sleeps_no_step me reply items does
 does_no_step me a reply items does = ap steps_in does.1 ∙ acts_no_step does.0
 
 -- one step on a word, and nothing else
@@ -90,15 +90,15 @@ one_more old new at op seen e same = trails e same
 module _ (at : ℕ → ℕ) (me : ℕ) where
   -- the steps with which a call ends are the last of all
   pub steps_to_end : (p : Place) (old new : Trail) (answer : Answer) (w : Courses at me p old new answer)
-      → new.steps ≡ old.steps ++ (steps_in w.2.before ++ w.2.brings.0)
-  steps_to_end p old new answer w = let end = w.2 in let brings = end.brings in
+      → new.steps ≡ old.steps ++ (steps_in w.2.before ++ w.2.will_bring.0)
+  steps_to_end p old new answer w = let end = w.2 in let will_bring = end.will_bring in
       steps_since old new w.0 w.1 ∙ ap (λ (l : List WordStep). old.steps ++ l)
       (ap steps_in end.whole ∙ (steps_apart end.before end.more
       ∙ ap (λ (l : List WordStep). steps_in end.before ++ l)
-      (ap steps_in brings.2 ∙ (steps_apart (did_steps brings.0) brings.1
-      ∙ (ap (λ (l : List WordStep). steps_in (did_steps brings.0) ++ l)
-      (does_no_step me (act_of end.last) end.reply brings.1 brings.4)
-      ∙ (append-nil (steps_in (did_steps brings.0)) ∙ did_these brings.0))))))
+      (ap steps_in will_bring.2 ∙ (steps_apart (did_steps will_bring.0) will_bring.1
+      ∙ (ap (λ (l : List WordStep). steps_in (did_steps will_bring.0) ++ l)
+      (does_no_step me (act_of end.last) end.reply will_bring.1 will_bring.4)
+      ∙ (append-nil (steps_in (did_steps will_bring.0)) ∙ did_these will_bring.0))))))
 
   -- nothing was done
   pub begins : (p : Place) (old : Trail) → ComesBy at me p old old p
@@ -114,18 +114,18 @@ module _ (at : ℕ → ℕ) (me : ℕ) where
   pub goes_on : (p q r : Place) (old mid new : Trail) (reply : Reply)
       (then : List PathItem) → ComesBy at me p old mid q → new ≡ recorded_all mid then
       → BringsBy at me q then reply → r ≡ next_place q reply → ComesBy at me p old new r
-  goes_on p q r old mid new reply then c e brings is = (
+  goes_on p q r old mid new reply then c e will_bring is = (
     c.0 ++ then,
     e ∙ ap (λ (x : Trail). recorded_all x then) c.1 ∙ recorded_on old c.0 then,
-    subst (Course at me p (c.0 ++ then)) (sym is) (goes p q c.0 then reply c.2 brings),
+    subst (Course at me p (c.0 ++ then)) (sym is) (goes p q c.0 then reply c.2 will_bring),
   )
 
   -- the last reply
   pub arrives : (p q : Place) (old mid new : Trail) (reply : Reply) (then : List PathItem)
       (answer : Answer) → ComesBy at me p old mid q → new ≡ recorded_all mid then
-      → BringsBy at me q then reply → next_act q reply ≡ act.TheVariants.End answer
+      → BringsBy at me q then reply → next_act q reply ≡ act.End answer
       → Courses at me p old new answer
-  arrives p q old mid new reply then answer c e brings ends = (
+  arrives p q old mid new reply then answer c e will_bring ends = (
     c.0 ++ then,
     e ∙ ap (λ (x : Trail). recorded_all x then) c.1 ∙ recorded_on old c.0 then,
     record {
@@ -134,7 +134,7 @@ module _ (at : ℕ → ℕ) (me : ℕ) where
       more = then;
       reply = reply;
       course = c.2;
-      brings = brings;
+      will_bring = will_bring;
       whole = refl;
       ends = ends;
     },
@@ -144,9 +144,9 @@ module _ (at : ℕ → ℕ) (me : ℕ) where
       → Course at me p (x ++ y) r
   both p q _ x _ u (rests _) = subst (λ (t : List PathItem). Course at me p t q) (sym (append-nil x)) u
   both p q r x y u (sees _ m _ _ v is) = sees p m r (x ++ y) (both p q m x y u v) is
-  both p q _ x _ u (goes _ r y z reply v brings) =
+  both p q _ x _ u (goes _ r y z reply v will_bring) =
       subst (λ (t : List PathItem). Course at me p t (next_place r reply)) (append_assoc x y z)
-      (goes p r (x ++ y) z reply (both p q r x y u v) brings)
+      (goes p r (x ++ y) z reply (both p q r x y u v) will_bring)
 
   -- a course, and then the rest of the call
   pub courses_on : (p q : Place) (old mid new : Trail) (answer : Answer) → ComesBy at me p old mid q
@@ -160,14 +160,14 @@ module _ (at : ℕ → ℕ) (me : ℕ) where
       more = rest.more;
       reply = rest.reply;
       course = both p q rest.last c.0 rest.before c.2 rest.course;
-      brings = rest.brings;
+      will_bring = rest.will_bring;
       whole = ap (λ (x : List PathItem). c.0 ++ x) rest.whole ∙ sym (append_assoc c.0 rest.before rest.more);
       ends = rest.ends;
     },
   )
 
   -- a step on a word after which nobody is queued tells nothing
-  pub steps_first : (p : Place) (l : ℕ) (op : Op) (seen : ℕ) → act_of p ≡ act.TheVariants.Word l op
+  pub steps_first : (p : Place) (l : ℕ) (op : Op) (seen : ℕ) → act_of p ≡ act.Word l op
       → is_queued (next_place p (Value seen)) ≡ false → BringsBy at me p (one (at l) op seen) (Value seen)
   steps_first p l op seen is calm = (
     step (at l) op seen,
@@ -183,8 +183,8 @@ module _ (at : ℕ → ℕ) (me : ℕ) where
 
   -- a call whose first step ends it
   pub arrives_at_once : (p : Place) (l : ℕ) (op : Op) (seen : ℕ) (a b : List WordStep) (s t : List Telling)
-      (answer : Answer) → act_of p ≡ act.TheVariants.Word l op → is_queued (next_place p (Value seen)) ≡ false
-      → b ≡ a ++ step (at l) op seen → t ≡ s → next_act p (Value seen) ≡ act.TheVariants.End answer
+      (answer : Answer) → act_of p ≡ act.Word l op → is_queued (next_place p (Value seen)) ≡ false
+      → b ≡ a ++ step (at l) op seen → t ≡ s → next_act p (Value seen) ≡ act.End answer
       → Courses at me p (trail a s) (trail b t) answer
   arrives_at_once p l op seen a b s t answer is calm e same ends =
       arrives p p (trail a s) (trail a s) (trail b t) (Value seen) (one (at l) op seen) answer
@@ -192,7 +192,7 @@ module _ (at : ℕ → ℕ) (me : ℕ) where
 
   -- the first step of a call, and then the rest
   pub courses_from : (p : Place) (l : ℕ) (op : Op) (seen : ℕ) (a b : List WordStep) (s t : List Telling)
-      (new : Trail) (answer : Answer) → act_of p ≡ act.TheVariants.Word l op
+      (new : Trail) (answer : Answer) → act_of p ≡ act.Word l op
       → is_queued (next_place p (Value seen)) ≡ false → b ≡ a ++ step (at l) op seen → t ≡ s
       → Courses at me (next_place p (Value seen)) (trail b t) new answer → Courses at me p (trail a s) new
       answer
@@ -204,14 +204,14 @@ module _ (at : ℕ → ℕ) (me : ℕ) where
 
   -- a call that ends by its first step, by trails
   pub over_at_once : (p : Place) (l : ℕ) (op : Op) (seen : ℕ) (old new : Trail) (answer : Answer)
-      → act_of p ≡ act.TheVariants.Word l op → is_queued (next_place p (Value seen)) ≡ false
-      → new ≡ recorded_all old (one (at l) op seen) → next_act p (Value seen) ≡ act.TheVariants.End answer
+      → act_of p ≡ act.Word l op → is_queued (next_place p (Value seen)) ≡ false
+      → new ≡ recorded_all old (one (at l) op seen) → next_act p (Value seen) ≡ act.End answer
       → Courses at me p old new answer
   over_at_once p l op seen old new answer is calm e ends = arrives p p old old new (Value seen)
       (one (at l) op seen) answer (begins p old) e (steps_first p l op seen is calm) ends
 
   pub courses_after : (p : Place) (l : ℕ) (op : Op) (seen : ℕ) (old mid new : Trail) (answer : Answer)
-      → act_of p ≡ act.TheVariants.Word l op → is_queued (next_place p (Value seen)) ≡ false
+      → act_of p ≡ act.Word l op → is_queued (next_place p (Value seen)) ≡ false
       → mid ≡ recorded_all old (one (at l) op seen) → Courses at me (next_place p (Value seen)) mid new answer
       → Courses at me p old new answer
   courses_after p l op seen old mid new answer is calm e rest = courses_on p (next_place p (Value seen)) old
@@ -220,7 +220,7 @@ module _ (at : ℕ → ℕ) (me : ℕ) where
 
   -- a step, and what is left of the call after it
   pub courses_rest : (p : Place) (l : ℕ) (op : Op) (seen : ℕ) (old mid new : Trail) (answer : Answer)
-      → act_of p ≡ act.TheVariants.Word l op → is_queued (next_place p (Value seen)) ≡ false
+      → act_of p ≡ act.Word l op → is_queued (next_place p (Value seen)) ≡ false
       → mid ≡ recorded_all old (one (at l) op seen) → CoursesAfterReply at me p (Value seen) mid new answer
       → Courses at me p old new answer
   courses_rest p l op seen old mid new answer is calm e (inl ended) =

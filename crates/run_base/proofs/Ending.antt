@@ -11,9 +11,9 @@ use Rattle.lot_steps.specs.declared.places.Place.TheVariants.{Idle, Mutex, RwLoc
 use Rattle.steps_mutex.specs.MutexSteps.{mutex_act, decided}
 use Rattle.steps_mutex.specs.declared.places.MutexPlace.{MutexPlace}
 use Rattle.steps_mutex.specs.declared.places.MutexPlace.TheVariants as at_mutex_place
-use Rattle.steps_mutex.specs.declared.hand_off.HandOffAt as hand_off
-use Rattle.steps_mutex.specs.declared.lock.LockAt as lock
-use Rattle.steps_mutex.specs.declared.unlock.UnlockAt as unlock
+use Rattle.steps_mutex.specs.declared.hand_off.HandOffAt.TheVariants as hand_off
+use Rattle.steps_mutex.specs.declared.lock.LockAt.TheVariants as lock
+use Rattle.steps_mutex.specs.declared.unlock.UnlockAt.TheVariants as unlock
 use Rattle.steps_condvar.specs.declared.places.CondvarPlace.{CondvarPlace}
 use Rattle.steps_condvar.specs.declared.places.CondvarPlace.TheVariants as waiting
 use Rattle.steps_once.specs.declared.places.OncePlace.{OncePlace}
@@ -21,11 +21,11 @@ use Rattle.steps_once.specs.declared.places.OncePlace.TheVariants.{Look, Run, Gi
 use Rattle.steps_once.specs.declared.run.RunAt.TheVariants as run
 use Rattle.core_words.proofs.MutexSteps.{each_code}
 use Rattle.steps_base.specs.declared.acts.Act.{Act}
-use Rattle.steps_base.specs.declared.acts.Act as act
+use Rattle.steps_base.specs.declared.acts.Act.TheVariants as act
 use Rattle.core_words.specs.declared.owners.Ownership.{Ownership}
 use Rattle.core_words.specs.declared.words.Word.{Word}
 use Rattle.core_words.specs.declared.words.WordKind.{WordKind}
-use Rattle.core_words.specs.declared.words.WordKind as kinds
+use Rattle.core_words.specs.declared.words.WordKind.TheVariants as kinds
 use Rattle.parking_lot_core.specs.declared.tokens.SectionRecord.{SectionRecord}
 use Rattle.steps_rwlock.specs.declared.places.Admission.{Admission}
 use Rattle.steps_rwlock.specs.declared.purposes.RwLockPurpose.{RwLockPurpose}
@@ -46,13 +46,13 @@ use Rattle.run_base.specs.Words.{single_word, at_in, kind_in}
 use Rattle.run_base.specs.Stages.{SectionView, ThreadState, ActNeeds, stage}
 use Rattle.run_base.specs.declared.driver.Stop.TheVariants.{Paused}
 
-pub end_of : (a : Act) (answer : Answer) → answer_of a ≡ Some answer → a ≡ act.TheVariants.End answer
-end_of (act.TheVariants.End x) answer e = cc
+pub end_of : (a : Act) (answer : Answer) → answer_of a ≡ Some answer → a ≡ act.End answer
+end_of (act.End x) answer e = cc
 end_of a answer e = absurd cc
 
 -- tells what a closure needs
-closure_act : (a : Act) (state : OnceState) → closure_of a ≡ Some state → a ≡ act.TheVariants.Closure state
-closure_act (act.TheVariants.Closure s) state e = cc
+closure_act : (a : Act) (state : OnceState) → closure_of a ≡ Some state → a ≡ act.Closure state
+closure_act (act.Closure s) state e = cc
 closure_act a state e = absurd cc
 
 -- a thread that comes to a closure is outside all sections, and stops there
@@ -166,14 +166,14 @@ module _ (up : Type 0) (base owns : List Ownership) where
 
 -- no call of a mutex runs a closure
 pub no_closure : (n : ℕ) (state : OnceState) (up : Type 0) (base : List Ownership) (at : MutexPlace)
-    (st : ThreadState) → FitsMutex up n base at st → mutex_act n at ≡ act.TheVariants.Closure state → ⊥
-no_closure n state up base (at_mutex_place.Lock e retries (lock.TheVariants.Decide seen)) st f is =
-    each_code (λ s. decided n s ≡ act.TheVariants.Closure state → ⊥) (λ is. cc) (λ is. cc) (λ is. cc)
+    (st : ThreadState) → FitsMutex up n base at st → mutex_act n at ≡ act.Closure state → ⊥
+no_closure n state up base (at_mutex_place.Lock e retries (lock.Decide seen)) st f is =
+    each_code (λ s. decided n s ≡ act.Closure state → ⊥) (λ is. cc) (λ is. cc) (λ is. cc)
     (λ is. cc) seen f.0 is
-no_closure n state up base (at_mutex_place.Unlock unlock.TheVariants.Take) st f is = cc
-no_closure n state up base (at_mutex_place.HandOff bumps (hand_off.TheVariants.Store true none_left)) st f
+no_closure n state up base (at_mutex_place.Unlock unlock.Take) st f is = cc
+no_closure n state up base (at_mutex_place.HandOff bumps (hand_off.Store true none_left)) st f
     is = cc
-no_closure n state up base (at_mutex_place.HandOff bumps (hand_off.TheVariants.Store false none_left)) st f
+no_closure n state up base (at_mutex_place.HandOff bumps (hand_off.Store false none_left)) st f
     is = cc
 no_closure n state up base at st f is = cc
 
@@ -214,8 +214,8 @@ never_paused up base n purpose (Semaphore l at) state st s = semaphore_no_closur
 -- no call comes to a closure that steps on a word of another kind than a `Once`'s or a condition
 -- variable's
 pub never_closes : (up : Type 0) (base : List Ownership) (aim : CallPurpose) (p : Place) (state : OnceState)
-    (st : ThreadState) (word : Word) → word.kind ≢ kinds.TheVariants.Once
-    → word.kind ≢ kinds.TheVariants.Condvar
+    (st : ThreadState) (word : Word) → word.kind ≢ kinds.Once
+    → word.kind ≢ kinds.Condvar
     → AreWordsFor p (kind_in (single_word word)) (at_in (single_word word))
     → IsStopped up base aim (Paused p state) st → ⊥
 never_closes up base aim Idle state st word no_once no_condvar words s = s.0

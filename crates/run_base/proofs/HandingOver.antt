@@ -4,7 +4,7 @@ use Rattle.std.proofs.Common.{refl, ap, ◌∙◌, subst, arith}
 use Rattle.core_base.specs.Lines.{threads_of}
 use Rattle.core_base.specs.declared.keys.Keys.TheVariants.{One}
 use Rattle.core_base.specs.declared.wants.Waiter.{Waiter}
-use Rattle.core_base.specs.declared.notes.Note as note
+use Rattle.core_base.specs.declared.notes.Note.TheVariants as note
 use Rattle.core_base.specs.declared.ops.Op.TheVariants.{Store}
 use Rattle.steps_mutex.specs.MutexSteps.{hand_off_act, hand_off_word}
 use Rattle.steps_base.specs.declared.acts.Reply.{Reply}
@@ -19,7 +19,7 @@ use Rattle.core_words.specs.Steps.{CodesWith, owns_after_step, has, without, wit
 use Rattle.core_words.specs.Views.{owned}
 use Rattle.core_words.specs.declared.owners.Owner.TheVariants.{Exclusive}
 use Rattle.core_words.specs.declared.owners.Ownership.{Ownership}
-use Rattle.core_words.specs.declared.words.WordKind as kinds
+use Rattle.core_words.specs.declared.words.WordKind.TheVariants as kinds
 use Rattle.core_words.proofs.MutexSteps.{mutex_steps, each_code}
 use Rattle.core_words.proofs.Trades.{owned_some}
 use Rattle.parking_lot_core.specs.declared.tokens.Did.TheVariants.{TakeFirst}
@@ -33,7 +33,7 @@ use Rattle.run_base.proofs.Leaving.{has_done}
 
 -- an owner finds the word locked
 pub finds_locked : (n seen : ℕ) (owns : List Ownership) → has (mutex_ownership n) owns ≡ true
-    → CodesWith kinds.TheVariants.Mutex (mutex_at n) seen owns → seen % 2 ≡ 1
+    → CodesWith kinds.Mutex (mutex_at n) seen owns → seen % 2 ≡ 1
 finds_locked n seen owns there code = let mine : 0 < owned (mutex_at n) exclusive owns =
     owned_some (mutex_at n) Exclusive owns there exclusive (omega arith) in let counted = code.2 exclusive
     in let locked = code.1.2 in omega arith
@@ -44,27 +44,27 @@ small_word false = omega arith
 
 -- the store that hands over leaves the word locked, and the other one doesn't
 kept : (n : ℕ) (none_left : Bool) (seen : ℕ) → seen < 4 → seen % 2 ≡ 1 → (owns : List Ownership)
-    → owns_after_step kinds.TheVariants.Mutex (mutex_at n) (Store (hand_off_word true none_left)) seen owns
+    → owns_after_step kinds.Mutex (mutex_at n) (Store (hand_off_word true none_left)) seen owns
     ≡ owns
-kept n true = each_code (λ s. s % 2 ≡ 1 → (owns : List Ownership) → owns_after_step kinds.TheVariants.Mutex
+kept n true = each_code (λ s. s % 2 ≡ 1 → (owns : List Ownership) → owns_after_step kinds.Mutex
     (mutex_at n) (Store 1) s owns ≡ owns) (λ odd. absurd (omega arith)) (λ odd owns. refl)
     (λ odd. absurd (omega arith)) (λ odd owns. refl)
-kept n false = each_code (λ s. s % 2 ≡ 1 → (owns : List Ownership) → owns_after_step kinds.TheVariants.Mutex
+kept n false = each_code (λ s. s % 2 ≡ 1 → (owns : List Ownership) → owns_after_step kinds.Mutex
     (mutex_at n) (Store 3) s owns ≡ owns) (λ odd. absurd (omega arith)) (λ odd owns. refl)
     (λ odd. absurd (omega arith)) (λ odd owns. refl)
 
 freed : (n seen : ℕ) → seen < 4 → seen % 2 ≡ 1 → (owns : List Ownership)
-    → owns_after_step kinds.TheVariants.Mutex (mutex_at n) (Store 0) seen owns ≡ without (mutex_ownership n)
+    → owns_after_step kinds.Mutex (mutex_at n) (Store 0) seen owns ≡ without (mutex_ownership n)
     owns
-freed n = each_code (λ s. s % 2 ≡ 1 → (owns : List Ownership) → owns_after_step kinds.TheVariants.Mutex
+freed n = each_code (λ s. s % 2 ≡ 1 → (owns : List Ownership) → owns_after_step kinds.Mutex
     (mutex_at n) (Store 0) s owns ≡ without (mutex_ownership n) owns) (λ odd. absurd (omega arith))
     (λ odd owns. refl) (λ odd. absurd (omega arith)) (λ odd owns. refl)
 
 module _ (n : ℕ) (base : List Ownership) (st : ThreadState) where
   -- the store leaves its thread with the mutex
   abbrev Gives : ℕ → Type 0
-  Gives word = (seen : ℕ) → CodesWith kinds.TheVariants.Mutex (mutex_at n) seen st.owns
-      → has (mutex_ownership n) (owns_after_step kinds.TheVariants.Mutex (mutex_at n) (Store word) seen
+  Gives word = (seen : ℕ) → CodesWith kinds.Mutex (mutex_at n) seen st.owns
+      → has (mutex_ownership n) (owns_after_step kinds.Mutex (mutex_at n) (Store word) seen
       st.owns) ≡ true
 
   there_now : has (mutex_ownership n) base ≡ true → st.owns ≡ base → has (mutex_ownership n) st.owns ≡ true
@@ -89,22 +89,22 @@ module _ (n : ℕ) (base : List Ownership) (st : ThreadState) where
     where
       by_first : (first : Option Waiter) → true ≡ is_there first → st.inside
           ≡ Some (having_taken (One (2 * n)) (TakeFirst (2 * n)) (listed first) (threads_of (listed first)))
-          → (word : ℕ) → Gives word → IsUngiven st.inside × HandsEach kinds.TheVariants.Mutex (mutex_at n)
+          → (word : ℕ) → Gives word → IsUngiven st.inside × HandsEach kinds.Mutex (mutex_at n)
           (Store word) st.owns (wanted_in st.inside)
       by_first None e i word gives = absurd cc
       by_first (Some to) e i word gives = (
         subst IsUngiven (sym i) refl,
-        subst (λ (x : Option SectionView). HandsEach kinds.TheVariants.Mutex (mutex_at n) (Store word) st.owns
+        subst (λ (x : Option SectionView). HandsEach kinds.Mutex (mutex_at n) (Store word) st.owns
             (wanted_in x)) (sym i) (λ seen code won. (gives seen code, tt)),
       )
   hand_off_needs (at.Leave false) f = by_none f.0 f.1 f.2.1
     where
       by_none : (first : Option Waiter) → false ≡ is_there first → st.inside
           ≡ Some (having_taken (One (2 * n)) (TakeFirst (2 * n)) (listed first) [])
-          → MayLeave note.TheVariants.Normal st.inside
-      by_none None e i = subst (MayLeave note.TheVariants.Normal) (sym i) refl
+          → MayLeave note.Normal st.inside
+      by_none None e i = subst (MayLeave note.Normal) (sym i) refl
       by_none (Some to) e i = absurd cc
-  hand_off_needs (at.Leave true) f = subst (MayLeave note.TheVariants.HandOff) (sym f.2.1) refl
+  hand_off_needs (at.Leave true) f = subst (MayLeave note.HandOff) (sym f.2.1) refl
 
   module _ (up : Type 0) (new : ThreadState) (bumps : Bool) where
     owns_of : (s : ThreadState) → new ≡ s → new.owns ≡ s.owns
@@ -146,7 +146,7 @@ module _ (n : ℕ) (base : List Ownership) (st : ThreadState) where
         none_listed (Some to) e = absurd cc
     hand_off_leads (at.Store true left) f (Value seen) b = let odd = finds_locked n seen st.owns
         (there_now f.0 f.1.2.0) b.0 in
-        let word = hand_off_word true left in let owns = owns_after_step kinds.TheVariants.Mutex (mutex_at n)
+        let word = hand_off_word true left in let owns = owns_after_step kinds.Mutex (mutex_at n)
         (Store (hand_off_word true left)) seen st.owns in (
           (
             f.1.0,
@@ -163,11 +163,11 @@ module _ (n : ℕ) (base : List Ownership) (st : ThreadState) where
         one_given : (first : Option Waiter) → true ≡ is_there first → st.inside
             ≡ Some (having_taken (One (2 * n)) (TakeFirst (2 * n)) (listed first) (threads_of (listed first)))
             → (word : ℕ) (owns : List Ownership) → without_all (mutex_at n)
-            (owners_given kinds.TheVariants.Mutex word (wanted_in st.inside)) owns ≡ without
+            (owners_given kinds.Mutex word (wanted_in st.inside)) owns ≡ without
             (mutex_ownership n) owns
         one_given None e i word owns = absurd cc
         one_given (Some to) e i word owns =
-            ap (λ (x : Option SectionView). without_all (mutex_at n) (owners_given kinds.TheVariants.Mutex
+            ap (λ (x : Option SectionView). without_all (mutex_at n) (owners_given kinds.Mutex
             word (wanted_in x)) owns) i
     hand_off_leads (at.Leave any) f Done b = left_by bumps
       where

@@ -17,18 +17,18 @@ use Rattle.steps_once.specs.OnceSteps.{once_act, once_respin}
 use Rattle.steps_once.specs.declared.places.OncePlace.{OncePlace}
 use Rattle.lot_steps.specs.Steps.{late_key, in_condvar, in_mutex, in_rwlock, in_once, in_semaphore}
 use Rattle.steps_base.specs.declared.acts.Act.{Act}
-use Rattle.steps_base.specs.declared.acts.Act as act
+use Rattle.steps_base.specs.declared.acts.Act.TheVariants as act
 use Rattle.steps_base.specs.declared.acts.Reply.{Reply}
 use Rattle.steps_base.specs.declared.acts.Reply.TheVariants.{Done, Value, Parked, Took, Removed, MovedTo}
 use Rattle.steps_base.specs.declared.acts.Reply.TheVariants.{Late, Woken}
 use Rattle.steps_mutex.specs.declared.places.MutexPlace.{MutexPlace}
 use Rattle.steps_mutex.specs.declared.places.MutexPlace.TheVariants as at_mutex_place
 use Rattle.steps_mutex.specs.declared.lock.Entry.{Entry}
-use Rattle.steps_mutex.specs.declared.lock.Entry as entry
+use Rattle.steps_mutex.specs.declared.lock.Entry.TheVariants as entry
 use Rattle.steps_mutex.specs.declared.lock.LockAt.{LockAt}
-use Rattle.steps_mutex.specs.declared.lock.LockAt as lock
+use Rattle.steps_mutex.specs.declared.lock.LockAt.TheVariants as lock
 use Rattle.steps_mutex.specs.declared.unlock.UnlockAt.{UnlockAt}
-use Rattle.steps_mutex.specs.declared.unlock.UnlockAt as unlock
+use Rattle.steps_mutex.specs.declared.unlock.UnlockAt.TheVariants as unlock
 use Rattle.lot_steps.specs.declared.places.Place.{Place}
 use Rattle.lot_steps.specs.declared.places.Place.TheVariants.{Idle, Mutex, RwLock, Once, Condvar, Semaphore}
 use Rattle.core_words.specs.Steps.{owns_after_step}
@@ -36,7 +36,7 @@ use Rattle.core_words.specs.Views.{owning}
 use Rattle.core_words.specs.declared.owners.Owner.{Owner}
 use Rattle.core_words.specs.declared.owners.Ownership.{Ownership}
 use Rattle.core_words.specs.declared.words.WordKind.{WordKind}
-use Rattle.core_words.specs.declared.words.WordKind as kinds
+use Rattle.core_words.specs.declared.words.WordKind.TheVariants as kinds
 use Rattle.core_words.proofs.MutexSteps.{mutex_steps, each_code}
 use Rattle.parking_lot_core.specs.declared.tokens.Did.TheVariants.{TakeFirst}
 use Rattle.run_base.specs.Fitting.{AreWordsFor, Fits, PlacesLead, LooksLeadOn, Reached, call_purpose}
@@ -60,9 +60,9 @@ use Rattle.steps_semaphore.specs.declared.places.SemaphorePlace.{SemaphorePlace}
 
 -- a reply to an operation on the word, which saw one of the four codes
 pub word_reply : (up : Type 0) (n : ℕ) (st new : ThreadState) (P : Reply → Type 0) (sleeper : Sleeper) (l : ℕ)
-    (op : Op) → ((seen : ℕ) → seen < 4 → new ≡ stepped kinds.TheVariants.Mutex (mutex_at n) op seen st
+    (op : Op) → ((seen : ℕ) → seen < 4 → new ≡ stepped kinds.Mutex (mutex_at n) op seen st
     → P (Value seen)) → (reply : Reply) → Became up mutexes (at_mutex n) sleeper st
-    (act.TheVariants.Word l op) reply new → P reply
+    (act.Word l op) reply new → P reply
 word_reply up n st new P sleeper l op h (Value seen) b = h seen b.0.1.0 b.1
 word_reply up n st new P sleeper l op h reply b = absurd b
 
@@ -78,7 +78,7 @@ module _ (up : Type 0) (n : ℕ) (base : List Ownership) (st : ThreadState) wher
 
   -- a load, and a step that clears the parked bit, change no owner
   abbrev IsQuiet : Op → ℕ → Type 0
-  IsQuiet op seen = owns_after_step kinds.TheVariants.Mutex (mutex_at n) op seen st.owns ≡ st.owns
+  IsQuiet op seen = owns_after_step kinds.Mutex (mutex_at n) op seen st.owns ≡ st.owns
 
   load_quiet : (seen : ℕ) → seen < 4 → IsQuiet Load seen
   load_quiet = each_code (IsQuiet Load) refl refl refl refl
@@ -91,32 +91,32 @@ module _ (up : Type 0) (n : ℕ) (base : List Ownership) (st : ThreadState) wher
   leaves owns f = subst (MayLeave Normal) (sym f.1) refl
 
   lock_needs : (e : Entry) (at : LockAt) → FitsLock up n e (beside n e base) at st → Can (lock_act n at)
-  lock_needs e lock.TheVariants.First f = (mutex_steps (mutex_at n) st.owns).enter 0 (omega arith) refl
-  lock_needs e lock.TheVariants.Load f = (mutex_steps (mutex_at n) st.owns).load
-  lock_needs e (lock.TheVariants.Decide seen) f = decide_needs seen (beside n e base) f.0 f.1
-  lock_needs e lock.TheVariants.Check f = (
+  lock_needs e lock.First f = (mutex_steps (mutex_at n) st.owns).enter 0 (omega arith) refl
+  lock_needs e lock.Load f = (mutex_steps (mutex_at n) st.owns).load
+  lock_needs e (lock.Decide seen) f = decide_needs seen (beside n e base) f.0 f.1
+  lock_needs e lock.Check f = (
     (mutex_steps (mutex_at n) st.owns).load,
     subst (HasKey (2 * n)) (sym f.1) refl,
   )
-  lock_needs e (lock.TheVariants.Leave parked) f = leaves (beside n e base) f
-  lock_needs e lock.TheVariants.Asleep f = f.1
-  lock_needs e lock.TheVariants.Accept f = tt
-  lock_needs e lock.TheVariants.Remove f = subst (HasKey (2 * n)) (sym f.1.1) refl
-  lock_needs e lock.TheVariants.Clear f = (mutex_steps (mutex_at n) st.owns).clear_parked
-  lock_needs e lock.TheVariants.GiveUp f = leaves (beside n e base) f.1
-  lock_needs e (lock.TheVariants.Taken by) f = absurd f
-  lock_needs e (lock.TheVariants.Handed by) f = absurd f
+  lock_needs e (lock.Leave parked) f = leaves (beside n e base) f
+  lock_needs e lock.Asleep f = f.1
+  lock_needs e lock.Accept f = tt
+  lock_needs e lock.Remove f = subst (HasKey (2 * n)) (sym f.1.1) refl
+  lock_needs e lock.Clear f = (mutex_steps (mutex_at n) st.owns).clear_parked
+  lock_needs e lock.GiveUp f = leaves (beside n e base) f.1
+  lock_needs e (lock.Taken by) f = absurd f
+  lock_needs e (lock.Handed by) f = absurd f
 
   unlock_needs : (at : UnlockAt) → FitsUnlock n base at st → Can (unlock_act n at)
-  unlock_needs unlock.TheVariants.Subtract f = absurd f
-  unlock_needs unlock.TheVariants.Enter f = (tt, f.1)
-  unlock_needs unlock.TheVariants.Take f = (
+  unlock_needs unlock.Subtract f = absurd f
+  unlock_needs unlock.Enter f = (tt, f.1)
+  unlock_needs unlock.Take f = (
     subst (HasKey (2 * n)) (sym f.1) refl,
     subst IsFresh (sym f.1) refl,
   )
-  unlock_needs (unlock.TheVariants.Clear any) f = (mutex_steps (mutex_at n) st.owns).clear_parked
-  unlock_needs (unlock.TheVariants.Leave false) f = subst (MayLeave Normal) (sym f.2.1) refl
-  unlock_needs (unlock.TheVariants.Leave true) f = subst (MayLeave Normal) (sym f.2.1) refl
+  unlock_needs (unlock.Clear any) f = (mutex_steps (mutex_at n) st.owns).clear_parked
+  unlock_needs (unlock.Leave false) f = subst (MayLeave Normal) (sym f.2.1) refl
+  unlock_needs (unlock.Leave true) f = subst (MayLeave Normal) (sym f.2.1) refl
 
   -- the needs of the place's act are there
   pub needs : (at : MutexPlace) → FitsMutex up n base at st → Can (mutex_act n at)
@@ -148,7 +148,7 @@ module _ (up : Type 0) (n : ℕ) (base : List Ownership) (st : ThreadState) wher
 
       -- by the value that an operation saw
       abbrev Saw : LockAt → Op → ℕ → Type 0
-      Saw at op seen = new ≡ stepped kinds.TheVariants.Mutex (mutex_at n) op seen st
+      Saw at op seen = new ≡ stepped kinds.Mutex (mutex_at n) op seen st
           → Reached up base (place at) (Value seen) new
 
       outside_still : Outside rest st → (s : ThreadState) → new ≡ s → s.owns ≡ st.owns → s.inside ≡ st.inside
@@ -162,37 +162,37 @@ module _ (up : Type 0) (n : ℕ) (base : List Ownership) (st : ThreadState) wher
         inside_of s x ∙ i ∙ f.1,
       )
 
-      from_first : Outside rest st → (seen : ℕ) → seen < 4 → Saw lock.TheVariants.First (Exchange 0 1) seen
-      from_first f = each_code (Saw lock.TheVariants.First (Exchange 0 1))
+      from_first : Outside rest st → (seen : ℕ) → seen < 4 → Saw lock.First (Exchange 0 1) seen
+      from_first f = each_code (Saw lock.First (Exchange 0 1))
           (λ x. inl (refl, has_it f _ x refl refl)) (λ x. (outside_still f _ x refl refl, refl))
           (λ x. (outside_still f _ x refl refl, refl)) (λ x. (outside_still f _ x refl refl, refl))
 
-      from_load : Outside rest st → (seen : ℕ) → seen < 4 → Saw lock.TheVariants.Load Load seen
-      from_load f = each_code (Saw lock.TheVariants.Load Load)
+      from_load : Outside rest st → (seen : ℕ) → seen < 4 → Saw lock.Load Load seen
+      from_load f = each_code (Saw lock.Load Load)
           (λ x. ((omega arith, outside_still f _ x refl refl), refl))
           (λ x. ((omega arith, outside_still f _ x refl refl), refl))
           (λ x. ((omega arith, outside_still f _ x refl refl), refl))
           (λ x. ((omega arith, outside_still f _ x refl refl), refl))
 
       gives_up : (e : Entry) (owns : List Ownership) → Outside owns st → (key : ℕ)
-          → late_key (Mutex n (at_mutex_place.Lock e retries lock.TheVariants.Asleep)) ≡ Some key → up
+          → late_key (Mutex n (at_mutex_place.Lock e retries lock.Asleep)) ≡ Some key → up
           → new ≡ stage st.owns (entered_now (One key)) st.last st.steps → FitsLock up n e owns
-          lock.TheVariants.Remove new
-      gives_up entry.TheVariants.LockTimed owns f key can over x = let k : key ≡ 2 * n = cc
+          lock.Remove new
+      gives_up entry.LockTimed owns f key can over x = let k : key ≡ 2 * n = cc
           in ((refl, over), (owns_of _ x ∙ f.0, inside_of _ x ∙ ap (λ (k : ℕ). entered_now (One k)) k))
-      gives_up entry.TheVariants.Lock owns f key can over x = absurd cc
-      gives_up entry.TheVariants.Bump owns f key can over x = absurd cc
+      gives_up entry.Lock owns f key can over x = absurd cc
+      gives_up entry.Bump owns f key can over x = absurd cc
 
-      saw_parked : Outside rest st → (seen : ℕ) → seen < 4 → Saw (lock.TheVariants.Decide 1) (Exchange 1 3)
+      saw_parked : Outside rest st → (seen : ℕ) → seen < 4 → Saw (lock.Decide 1) (Exchange 1 3)
           seen
-      saw_parked f = each_code (Saw (lock.TheVariants.Decide 1) (Exchange 1 3))
+      saw_parked f = each_code (Saw (lock.Decide 1) (Exchange 1 3))
           (λ x. ((omega arith, outside_still f _ x refl refl), refl))
           (λ x. ((omega arith, outside_still f _ x refl refl), refl))
           (λ x. ((omega arith, outside_still f _ x refl refl), refl))
           (λ x. ((omega arith, outside_still f _ x refl refl), refl))
 
-      enters_0 : Outside rest st → (seen : ℕ) → seen < 4 → Saw (lock.TheVariants.Decide 0) (Exchange 0 1) seen
-      enters_0 f = each_code (Saw (lock.TheVariants.Decide 0) (Exchange 0 1))
+      enters_0 : Outside rest st → (seen : ℕ) → seen < 4 → Saw (lock.Decide 0) (Exchange 0 1) seen
+      enters_0 f = each_code (Saw (lock.Decide 0) (Exchange 0 1))
           (λ x. inl (refl, has_it f _ x refl refl)) (λ x. (
             (omega arith, outside_still f _ x refl refl),
             refl,
@@ -200,8 +200,8 @@ module _ (up : Type 0) (n : ℕ) (base : List Ownership) (st : ThreadState) wher
           (λ x. ((omega arith, outside_still f _ x refl refl), refl))
           (λ x. ((omega arith, outside_still f _ x refl refl), refl))
 
-      enters_2 : Outside rest st → (seen : ℕ) → seen < 4 → Saw (lock.TheVariants.Decide 2) (Exchange 2 3) seen
-      enters_2 f = each_code (Saw (lock.TheVariants.Decide 2) (Exchange 2 3))
+      enters_2 : Outside rest st → (seen : ℕ) → seen < 4 → Saw (lock.Decide 2) (Exchange 2 3) seen
+      enters_2 f = each_code (Saw (lock.Decide 2) (Exchange 2 3))
           (λ x. ((omega arith, outside_still f _ x refl refl), refl))
           (λ x. ((omega arith, outside_still f _ x refl refl), refl))
           (λ x. inl (refl, has_it f _ x refl refl)) (λ x. (
@@ -212,80 +212,80 @@ module _ (up : Type 0) (n : ℕ) (base : List Ownership) (st : ThreadState) wher
       nobody_moves : {key : ℕ} → None ≡ Some key → ⊥
       nobody_moves e = cc
 
-      checks : Within n rest st → (seen : ℕ) → seen < 4 → new ≡ stepped kinds.TheVariants.Mutex (mutex_at n)
+      checks : Within n rest st → (seen : ℕ) → seen < 4 → new ≡ stepped kinds.Mutex (mutex_at n)
           Load seen st → Within n rest new
       checks f seen small x = stays rest _ _ x (load_quiet seen small) refl f
 
       enter_reply : (P : Reply → Type 0) (keys : Keys)
           → (new ≡ stage st.owns (entered_now keys) st.last st.steps → P Done) → (reply : Reply)
-          → Became up mutexes (at_mutex n) (sleeper_at (place lock.TheVariants.First)) st
-          (act.TheVariants.Enter keys) reply new → P reply
+          → Became up mutexes (at_mutex n) (sleeper_at (place lock.First)) st
+          (act.Enter keys) reply new → P reply
       enter_reply P keys h Done b = h b
       enter_reply P keys h reply b = absurd b
 
       decides : (seen : ℕ) → seen < 4 → Outside rest st → (reply : Reply) → Became up mutexes (at_mutex n)
-          (sleeper_at (place lock.TheVariants.First)) st (decided n seen) reply new
-          → Reached up base (place (lock.TheVariants.Decide seen)) reply new
+          (sleeper_at (place lock.First)) st (decided n seen) reply new
+          → Reached up base (place (lock.Decide seen)) reply new
       decides = each_code (λ s. Outside rest st → (reply : Reply) → Became up mutexes (at_mutex n)
-          (sleeper_at (place lock.TheVariants.First)) st (decided n s) reply new
-          → Reached up base (place (lock.TheVariants.Decide s)) reply new)
-          (λ f. word_reply up n st new (λ r. Reached up base (place (lock.TheVariants.Decide 0)) r new)
-          (sleeper_at (place lock.TheVariants.First)) n (Exchange 0 1) (enters_0 f))
-          (λ f. word_reply up n st new (λ r. Reached up base (place (lock.TheVariants.Decide 1)) r new)
-          (sleeper_at (place lock.TheVariants.First)) n (Exchange 1 3) (saw_parked f))
-          (λ f. word_reply up n st new (λ r. Reached up base (place (lock.TheVariants.Decide 2)) r new)
-          (sleeper_at (place lock.TheVariants.First)) n (Exchange 2 3) (enters_2 f))
-          (λ f. enter_reply (λ r. Reached up base (place (lock.TheVariants.Decide 3)) r new) (One (2 * n))
+          (sleeper_at (place lock.First)) st (decided n s) reply new
+          → Reached up base (place (lock.Decide s)) reply new)
+          (λ f. word_reply up n st new (λ r. Reached up base (place (lock.Decide 0)) r new)
+          (sleeper_at (place lock.First)) n (Exchange 0 1) (enters_0 f))
+          (λ f. word_reply up n st new (λ r. Reached up base (place (lock.Decide 1)) r new)
+          (sleeper_at (place lock.First)) n (Exchange 1 3) (saw_parked f))
+          (λ f. word_reply up n st new (λ r. Reached up base (place (lock.Decide 2)) r new)
+          (sleeper_at (place lock.First)) n (Exchange 2 3) (enters_2 f))
+          (λ f. enter_reply (λ r. Reached up base (place (lock.Decide 3)) r new) (One (2 * n))
           (λ x. ((owns_of _ x ∙ f.0, inside_of _ x), refl)))
 
       lock_leads : (at : LockAt) → FitsLock up n e rest at st → (reply : Reply)
           → Became up mutexes (at_mutex n) (sleeper_at (place at)) st (lock_act n at) reply new
           → Reached up base (place at) reply new
-      lock_leads lock.TheVariants.First f (Value seen) b = from_first f seen b.0.1.0 b.1
-      lock_leads lock.TheVariants.Load f (Value seen) b = from_load f seen b.0.1.0 b.1
-      lock_leads (lock.TheVariants.Decide seen) f reply b = decides seen f.0 f.1 reply b
-      lock_leads lock.TheVariants.Check f (Parked parked) b = let w = checks f b.0 b.2.0.1.0 b.2.1
+      lock_leads lock.First f (Value seen) b = from_first f seen b.0.1.0 b.1
+      lock_leads lock.Load f (Value seen) b = from_load f seen b.0.1.0 b.1
+      lock_leads (lock.Decide seen) f reply b = decides seen f.0 f.1 reply b
+      lock_leads lock.Check f (Parked parked) b = let w = checks f b.0 b.2.0.1.0 b.2.1
           in (w, refl)
-      lock_leads (lock.TheVariants.Leave true) f Done b = ((b.0 ∙ f.0, b.1), refl)
-      lock_leads (lock.TheVariants.Leave false) f Done b = ((b.0 ∙ f.0, b.1), refl)
-      lock_leads lock.TheVariants.Asleep f (Woken Normal) b = ((b.0 ∙ f.0, b.1), refl)
-      lock_leads lock.TheVariants.Asleep f (Woken HandOff) b = (
+      lock_leads (lock.Leave true) f Done b = ((b.0 ∙ f.0, b.1), refl)
+      lock_leads (lock.Leave false) f Done b = ((b.0 ∙ f.0, b.1), refl)
+      lock_leads lock.Asleep f (Woken Normal) b = ((b.0 ∙ f.0, b.1), refl)
+      lock_leads lock.Asleep f (Woken HandOff) b = (
         has_it f _ (b.2 ∙ ap (λ (o : Owner). stage (owning (mutex_at n) o ∷ st.owns) st.inside st.last
             st.steps) b.1) refl refl,
         refl,
       )
-      lock_leads lock.TheVariants.Asleep f Late b = (gives_up e rest f b.0 b.1.0 b.2 b.1.1, refl)
-      lock_leads lock.TheVariants.Asleep f (MovedTo key) b = absurd (nobody_moves b.0.1)
-      lock_leads lock.TheVariants.Remove f (Removed true) b = ((f.0, stays rest _ _ b refl refl f.1), refl)
-      lock_leads lock.TheVariants.Remove f (Removed false) b = ((f.0, stays rest _ _ b refl refl f.1), refl)
-      lock_leads lock.TheVariants.Clear f (Value seen) b =
+      lock_leads lock.Asleep f Late b = (gives_up e rest f b.0 b.1.0 b.2 b.1.1, refl)
+      lock_leads lock.Asleep f (MovedTo key) b = absurd (nobody_moves b.0.1)
+      lock_leads lock.Remove f (Removed true) b = ((f.0, stays rest _ _ b refl refl f.1), refl)
+      lock_leads lock.Remove f (Removed false) b = ((f.0, stays rest _ _ b refl refl f.1), refl)
+      lock_leads lock.Clear f (Value seen) b =
           ((f.0, stays rest _ _ b.1 (clear_quiet seen b.0.1.0) refl f.1), refl)
-      lock_leads lock.TheVariants.GiveUp f Done b = inr (
+      lock_leads lock.GiveUp f Done b = inr (
         refl,
         f.0,
         (b.0 ∙ f.1.0, b.1),
         subst (λ (i : Option SectionView). IsLeft i new.last) f.1.1 b.2,
       )
-      lock_leads lock.TheVariants.Accept f Done b = inl (refl, (owns_of _ b ∙ f.0, inside_of _ b ∙ f.1))
-      lock_leads (lock.TheVariants.Taken by) f reply b = absurd f
-      lock_leads (lock.TheVariants.Handed by) f reply b = absurd f
+      lock_leads lock.Accept f Done b = inl (refl, (owns_of _ b ∙ f.0, inside_of _ b ∙ f.1))
+      lock_leads (lock.Taken by) f reply b = absurd f
+      lock_leads (lock.Handed by) f reply b = absurd f
       lock_leads at f reply b = absurd b
 
     -- a release after its subtraction
     unlock_leads : (at : UnlockAt) → FitsUnlock n base at st → (reply : Reply)
         → Became up mutexes (at_mutex n) (sleeper_at (Mutex n (at_mutex_place.Unlock at))) st
         (unlock_act n at) reply new → Reached up base (Mutex n (at_mutex_place.Unlock at)) reply new
-    unlock_leads unlock.TheVariants.Subtract f reply b = absurd f
-    unlock_leads unlock.TheVariants.Enter f Done b = ((owns_of _ b ∙ f.0, inside_of _ b), refl)
-    unlock_leads unlock.TheVariants.Take f (Took any true) b =
+    unlock_leads unlock.Subtract f reply b = absurd f
+    unlock_leads unlock.Enter f Done b = ((owns_of _ b ∙ f.0, inside_of _ b), refl)
+    unlock_leads unlock.Take f (Took any true) b =
         ((b.0.0, b.0.1, (b.1 ∙ f.0, b.0.2 ∙ ap (took_as (TakeFirst (2 * n)) (listed b.0.0)) f.1)), refl)
-    unlock_leads unlock.TheVariants.Take f (Took any false) b =
+    unlock_leads unlock.Take f (Took any false) b =
         ((b.0.0, b.0.1, (b.1 ∙ f.0, b.0.2 ∙ ap (took_as (TakeFirst (2 * n)) (listed b.0.0)) f.1)), refl)
-    unlock_leads (unlock.TheVariants.Clear any) f (Value seen) b =
+    unlock_leads (unlock.Clear any) f (Value seen) b =
         ((f.0, f.1, stays base _ _ b.1 (clear_quiet seen b.0.1.0) refl f.2), refl)
-    unlock_leads (unlock.TheVariants.Leave any) f Done b =
+    unlock_leads (unlock.Leave any) f Done b =
         (refl, (b.0 ∙ f.2.0, b.1), has_done _ _ _ f.2.1 b.2)
-    unlock_leads unlock.TheVariants.Take f reply b = absurd b.0
+    unlock_leads unlock.Take f reply b = absurd b.0
     unlock_leads at f reply b = absurd b
 
     leads : (at : MutexPlace) → FitsMutex up n base at st → (reply : Reply)
@@ -298,16 +298,16 @@ module _ (up : Type 0) (n : ℕ) (base : List Ownership) (st : ThreadState) wher
 
   -- where it looks at the word once more, it has what it had
   looks : (at : MutexPlace) → FitsMutex up n base at st → LooksLeadOn up base (Mutex n at) st
-  looks (at_mutex_place.Lock e retries (lock.TheVariants.Decide expected)) f q is = by_mark _ is
+  looks (at_mutex_place.Lock e retries (lock.Decide expected)) f q is = by_mark _ is
     where
-      by_mark : (b : Bool) → in_mutex n (if b then Some (at_mutex_place.Lock e retries lock.TheVariants.Load)
+      by_mark : (b : Bool) → in_mutex n (if b then Some (at_mutex_place.Lock e retries lock.Load)
           else None) ≡ Some q → Fits up base q st
           × (call_purpose q ≡ call_purpose
-          (Mutex n (at_mutex_place.Lock e retries (lock.TheVariants.Decide expected))))
-      by_mark true is = let there : Mutex n (at_mutex_place.Lock e retries lock.TheVariants.Load) ≡ q = cc
+          (Mutex n (at_mutex_place.Lock e retries (lock.Decide expected))))
+      by_mark true is = let there : Mutex n (at_mutex_place.Lock e retries lock.Load) ≡ q = cc
           in subst (λ r. Fits up base r st
           × (call_purpose r ≡ call_purpose
-          (Mutex n (at_mutex_place.Lock e retries (lock.TheVariants.Decide expected))))) there (f.1, refl)
+          (Mutex n (at_mutex_place.Lock e retries (lock.Decide expected))))) there (f.1, refl)
       by_mark false is = absurd cc
   looks at f q is = absurd cc
 

@@ -11,7 +11,7 @@ use Rattle.core_base.specs.declared.ops.Op.TheVariants.{And, Exchange, Load}
 use Rattle.spec_locks.specs.declared.calls.OnceCall.{OnceCall}
 use Rattle.spec_locks.specs.declared.calls.OnceCall.TheVariants.{CallOnce, Wait, WaitTimed}
 use Rattle.steps_base.specs.declared.acts.Act.{Act}
-use Rattle.steps_base.specs.declared.acts.Act as act
+use Rattle.steps_base.specs.declared.acts.Act.TheVariants as act
 use Rattle.steps_base.specs.declared.acts.Reply.{Reply}
 use Rattle.steps_base.specs.declared.acts.Reply.TheVariants.{Done, Value, Parked, Took, Removed, MovedTo}
 use Rattle.steps_base.specs.declared.acts.Reply.TheVariants.{Late, Woken}
@@ -33,7 +33,7 @@ use Rattle.core_words.specs.Steps.{once_trade, owns_after}
 use Rattle.core_words.specs.Views.{owning}
 use Rattle.core_words.specs.declared.owners.Owner.TheVariants.{Runner, Witness}
 use Rattle.core_words.specs.declared.owners.Ownership.{Ownership}
-use Rattle.core_words.specs.declared.words.WordKind as kinds
+use Rattle.core_words.specs.declared.words.WordKind.TheVariants as kinds
 use Rattle.core_words.proofs.OnceSteps.{each_once_code, once_steps}
 use Rattle.parking_lot_core.specs.declared.tokens.Did.TheVariants.{TakeAll}
 use Rattle.run_base.specs.Fitting.{Fits, LooksLeadOn, Reached, ReachedBy, call_purpose, answer_of, of_once}
@@ -178,7 +178,7 @@ module _ (l : ℕ) (base : List Ownership) (st : ThreadState) where
           (λ x. ((inr (omega arith, inr (inr refl)), refl, still f _ x.1 refl refl), refl))
 
       abbrev Saw : OnceCall → Bool → ℕ → ℕ → ℕ → Type 0
-      Saw c r from to seen = new ≡ stepped kinds.TheVariants.Once (once_at l) (Exchange from to) seen st
+      Saw c r from to seen = new ≡ stepped kinds.Once (once_at l) (Exchange from to) seen st
           → Reached up base (Once l (Look c r (look.Decide from))) (Value seen) new
 
       -- an exchange that finds another value is a look
@@ -199,14 +199,14 @@ module _ (l : ℕ) (base : List Ownership) (st : ThreadState) where
 
       by_exchange : (c : OnceCall) (r : Bool) (from to : ℕ) → Saw c r from to from → (reply : Reply)
           → Became up onces (at_once l) (sleeper_at (Once l (Look c r (look.Decide from)))) st
-          (act.TheVariants.Word l (Exchange from to)) reply new
+          (act.Word l (Exchange from to)) reply new
           → Reached up base (Once l (Look c r (look.Decide from))) reply new
       by_exchange c r from to hit (Value seen) b = dite (ℕ_discrete seen from)
           (λ e. subst (Saw c r from to) (sym e) hit) (λ ne. misses c r from to seen b.0.1.0 ne) b.1
       by_exchange c r from to hit reply b = absurd b
 
       by_entry : (c : OnceCall) (r : Bool) (from : ℕ) (reply : Reply) → Became up onces (at_once l)
-          (sleeper_at (Once l (Look c r (look.Decide from)))) st (act.TheVariants.Enter (One (2 * l))) reply
+          (sleeper_at (Once l (Look c r (look.Decide from)))) st (act.Enter (One (2 * l))) reply
           new → Reached up base (Once l (Look c r (look.Decide from))) reply new
       by_entry c r from Done b = (((f.0.0, owns_of _ b ∙ f.0.1), inside_of _ b), refl)
       by_entry c r from reply b = absurd b
@@ -284,7 +284,7 @@ module _ (l : ℕ) (base : List Ownership) (st : ThreadState) where
         (λ x. within f _ x.1 refl refl)
 
     abbrev Cleared : ℕ → Type 0
-    Cleared seen = new ≡ stepped kinds.TheVariants.Once (once_at l) (And NOT_PARKED) seen st
+    Cleared seen = new ≡ stepped kinds.Once (once_at l) (And NOT_PARKED) seen st
         → StandsWithin l base new
 
     -- the bit is cleared there

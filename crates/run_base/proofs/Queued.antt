@@ -8,7 +8,7 @@ use Rattle.spec_locks.specs.declared.calls.Access.TheVariants as access
 use Rattle.spec_locks.specs.declared.calls.Patience.TheVariants.{Patient, Timed, Try}
 use Rattle.spec_locks.specs.Codes.{is_running, has_aside}
 use Rattle.steps_base.specs.declared.acts.Act.{Act}
-use Rattle.steps_base.specs.declared.acts.Act as act
+use Rattle.steps_base.specs.declared.acts.Act.TheVariants as act
 use Rattle.steps_base.specs.declared.acts.Next.{Next}
 use Rattle.steps_base.specs.declared.acts.Next.TheVariants.{At, End}
 use Rattle.steps_base.specs.declared.acts.Reply.{Reply}
@@ -126,10 +126,10 @@ module _ (up : Type 0) (kinds : ℕ → WordKind) (at' : ℕ → ℕ) (sleeper :
   handed_over a reply b e = woken a (subst (λ (r : Reply). Became up kinds at' sleeper st a r new) e b)
     where
       woken : (a : Act) → Became up kinds at' sleeper st a (Woken HandOff) new → sleeper.takes_over ≡ true
-      woken act.TheVariants.Sleep b = b.3
-      woken (act.TheVariants.Take key whom.First) b = absurd b.0
-      woken (act.TheVariants.Take key whom.All) b = absurd b.0
-      woken (act.TheVariants.Take key (whom.Picked start recursive)) b = absurd b.0
+      woken act.Sleep b = b.3
+      woken (act.Take key whom.First) b = absurd b.0
+      woken (act.Take key whom.All) b = absurd b.0
+      woken (act.Take key (whom.Picked start recursive)) b = absurd b.0
       woken a b = absurd b
 
   -- a thread that releases its mutex is told nothing of others
@@ -541,8 +541,8 @@ unqueued_after p seen goes calm = not_true (is_queued (next_place p (Value seen)
     not_true false h = refl
 
     gets_none : (a : Act) → gets_place a (Value seen) ≡ true → ⊥
-    gets_none (act.TheVariants.Park _ _ _ _) e = false≢true e
-    gets_none (act.TheVariants.Stand _ _) e = false≢true e
+    gets_none (act.Park _ _ _ _) e = false≢true e
+    gets_none (act.Stand _ _) e = false≢true e
     gets_none a e = false≢true e
 
     by_goes : (gets_place (act_of p) (Value seen) ≡ true) ⊎ ((spends_place (act_of p) (Value seen) ≡ false)

@@ -253,7 +253,7 @@ module _ (up : Type 0) (l : ℕ) (a : Admission) (base : List Ownership) (st new
       seen = seen;
       stood = stood;
       owns = owns;
-      within = subst (λ (o : Option Line). IsWithin l a c o (rwlock_role (rwlock_first c)).carries st.inside)
+      within = subst (λ (o : Option Line). IsWithin l a c o (rwlock_role (rwlock_first c)).has_taken st.inside)
           (sym inside) outside;
       late = late;
     }

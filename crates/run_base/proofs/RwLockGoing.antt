@@ -124,8 +124,8 @@ module _ (up : Type 0) (l : ℕ) (a : Admission) (base : List Ownership) (p : Rw
         seen = place.3;
         stood = place.4 st.steps;
         owns = subst (λ (d : Role). OwnsBeside l d.claims base st.owns) (sym role) f.owns;
-        within = subst (λ (r : RwLockPurpose). IsWithin l a r (rwlock_role p2).inside (rwlock_role p2).carries
-            st.inside) place.0 (subst (λ (d : Role). IsWithin l a p.purpose d.inside d.carries st.inside)
+        within = subst (λ (r : RwLockPurpose). IsWithin l a r (rwlock_role p2).inside (rwlock_role p2).has_taken
+            st.inside) place.0 (subst (λ (d : Role). IsWithin l a p.purpose d.inside d.has_taken st.inside)
             (sym role) f.within);
         late = λ h. f.late (sym (ap (λ (r : Profile). r.late) row) ∙ h);
       }

@@ -47,7 +47,7 @@ module _ (at : ℕ) where
   abbrev shared : ℕ → List Ownership → List Ownership
   shared n rest = map (owning at) (so_many_shared n) ++ rest
 
-  -- they can be handed what they want, and that is left
+  -- waiters can be handed what they want, and that is left
   abbrev pub Hands : ℕ → List Want → List Ownership → List Ownership → Type 0
   Hands m ws owns rest = HasAll at (owners_given RwLock m ws) owns
       × (without_all at (owners_given RwLock m ws) owns ≡ rest)
@@ -437,7 +437,7 @@ word_after seen n successor none_left = with_taken access.Upgradable (record {
 abbrev pub word_given : ℕ → Bool → ℕ
 word_given seen none_left = parked_as none_left (without_right access.Upgradable seen)
 
--- their quarters, by those of the word that was seen
+-- the quarters of waiters, by those of the word that was seen
 pub record QuartersFrom (seen m part : ℕ) : Type 0 where
   pub fits : m < 2 ^ 64
   pub stand : m / 4 + 5 ≡ seen / 4 + part
@@ -500,7 +500,7 @@ module _ (seen : ℕ) (own : IsUpgradableWord seen) where
         (plus ((n * 16) % 2 ^ 64) 20)) none_left (summed 20 (omega arith) (omega arith) (omega arith))
         (let small = own.0 in omega arith) (omega arith) refl
 
--- ---------------------------------------------------------------- those that it took
+-- ---------------------------------------------------------------- threads that were taken
 
 -- each thread that a place says it took
 by_taken : (P : Taken → Type 0) (ws : List Want) (k : Taken) → AreTaken ws k → P (record {

@@ -105,7 +105,7 @@ pub record Kept (up : Type 0) (l : ℕ) (base : List Ownership) (a : Admission) 
   pub begun : HasGivenWay p.at
   pub seen : SeenInRange p.at
   pub owns : OwnsBeside l (rwlock_role p).claims base st.owns
-  pub within : IsWithin l a p.purpose (rwlock_role p).inside (rwlock_role p).carries st.inside
+  pub within : IsWithin l a p.purpose (rwlock_role p).inside (rwlock_role p).has_taken st.inside
   pub stood : HasStood l p.at st.steps
   pub late : (rwlock_profile a p).late ≡ true → up
 
@@ -197,7 +197,7 @@ module _ (up : Type 0) (l : ℕ) (a : Admission) (base : List Ownership) (q : Rw
           purpose = q;
           retries = r;
           at = to;
-        })).carries new.inside) (sym outside) none;
+        })).has_taken new.inside) (sym outside) none;
         late = not_late to quiet;
       },
       refl,
@@ -647,14 +647,14 @@ module _ (up : Type 0) (l : ℕ) (a : Admission) (base : List Ownership) (q : Rw
           purpose = q;
           retries = r;
           at = to;
-        })).inside ≡ Some m → (rwlock_role (record { purpose = q; retries = r; at = to })).carries ≡ false
+        })).inside ≡ Some m → (rwlock_role (record { purpose = q; retries = r; at = to })).has_taken ≡ false
         → (late_at is_late q to ≡ true → up) → OwnsBeside l c base new.owns
         → new.inside ≡ entered_now (One (key_of l m)) → Reach (At (record {
           purpose = q;
           retries = r;
           at = to;
         }))
-    inside_of to r m c begun seen stood claims inside carries late owns within = (
+    inside_of to r m c begun seen stood claims inside has_taken late owns within = (
       record {
         begun = begun;
         seen = seen;
@@ -664,8 +664,8 @@ module _ (up : Type 0) (l : ℕ) (a : Admission) (base : List Ownership) (q : Rw
           purpose = q;
           retries = r;
           at = to;
-        })).carries new.inside) (sym inside) (subst (λ (b : Bool). IsWithin l a q (Some m) b new.inside)
-            (sym carries) within);
+        })).has_taken new.inside) (sym inside) (subst (λ (b : Bool). IsWithin l a q (Some m) b new.inside)
+            (sym has_taken) within);
         late = late;
       },
       refl,
@@ -988,18 +988,18 @@ module _ (up : Type 0) (l : ℕ) (a : Admission) (base : List Ownership) (q : Rw
 
     -- a thread that it took is in its hand until it leaves
     carries_on : (m : Line) (to : WakeAt) → (rwlock_role (of (at.Wake m to))).inside ≡ Some m
-        → (rwlock_role (of (at.Wake m to))).carries ≡ true → (rwlock_role (of (at.Wake m to))).claims
+        → (rwlock_role (of (at.Wake m to))).has_taken ≡ true → (rwlock_role (of (at.Wake m to))).claims
         ≡ kept_claim (start_of q) → (late_at is_late q (at.Wake m to) ≡ true → up)
         → OwnsBeside l (kept_claim (start_of q)) base new.owns → IsWithin l a q (Some m) true new.inside
         → Reach (stays (of (at.Wake m to)) (at.Wake m to))
-    carries_on m to inside carries claims late owns within = (
+    carries_on m to inside has_taken claims late owns within = (
       record {
         begun = tt;
         seen = tt;
         stood = tt;
         owns = subst (λ (x : Option Claim). OwnsBeside l x base new.owns) (sym claims) owns;
-        within = subst (λ (x : Option Line). IsWithin l a q x (rwlock_role (of (at.Wake m to))).carries
-            new.inside) (sym inside) (subst (λ (b : Bool). IsWithin l a q (Some m) b new.inside) (sym carries)
+        within = subst (λ (x : Option Line). IsWithin l a q x (rwlock_role (of (at.Wake m to))).has_taken
+            new.inside) (sym inside) (subst (λ (b : Bool). IsWithin l a q (Some m) b new.inside) (sym has_taken)
             within);
         late = late;
       },

@@ -13,7 +13,7 @@ use Rattle.core_base.specs.declared.notes.Note.TheVariants.{Normal, HandOff}
 use Rattle.core_base.specs.declared.ops.Op.{Op}
 use Rattle.core_base.specs.declared.ops.Op.TheVariants.{And, Exchange, Load}
 use Rattle.steps_base.specs.declared.acts.Act.{Act}
-use Rattle.steps_base.specs.declared.acts.Act as act
+use Rattle.steps_base.specs.declared.acts.Act.TheVariants as act
 use Rattle.steps_base.specs.declared.acts.Next.TheVariants.{At, End}
 use Rattle.steps_base.specs.declared.acts.Reply.{Reply}
 use Rattle.steps_base.specs.declared.acts.Reply.TheVariants.{Done, Value, Parked, Took, Removed, MovedTo}
@@ -37,7 +37,7 @@ use Rattle.lot_steps.specs.declared.places.Place.{Place}
 use Rattle.lot_steps.specs.declared.places.Place.TheVariants.{Semaphore}
 use Rattle.core_words.specs.Steps.{CodesWith, owns_after, owns_after_step, so_many_shared, trading}
 use Rattle.core_words.specs.declared.owners.Ownership.{Ownership}
-use Rattle.core_words.specs.declared.words.WordKind as kinds
+use Rattle.core_words.specs.declared.words.WordKind.TheVariants as kinds
 use Rattle.core_words.proofs.SemaphoreSteps.{semaphore_steps, semaphore_trades}
 use Rattle.parking_lot_core.specs.declared.tokens.Did.TheVariants.{TakeFirst}
 use Rattle.run_base.specs.Fitting.{CallPurpose, Fits, LooksLeadOn, Reached, ReachedBy, call_purpose}
@@ -64,14 +64,14 @@ module _ (permits l : ℕ) (base : List Ownership) (st : ThreadState) where
   decide_needs : (seen : ℕ) → Outside base st → Can (decided l seen)
   decide_needs seen f = by_free (is_free seen) refl
     where
-      by_word : (b : Bool) → (seen == 0) ≡ b → Can (if b then act.TheVariants.Word l (Exchange 0 1)
-          else act.TheVariants.Enter (One (2 * l)))
+      by_word : (b : Bool) → (seen == 0) ≡ b → Can (if b then act.Word l (Exchange 0 1)
+          else act.Enter (One (2 * l)))
       by_word true e = (semaphore_steps permits (semaphore_at l) st.owns).set_parked
       by_word false e = (tt, f.1)
 
       by_free : (b : Bool) → is_free seen ≡ b
-          → Can (if b then act.TheVariants.Word l (Exchange seen (seen - 2)) else if seen == 0
-          then act.TheVariants.Word l (Exchange 0 1) else act.TheVariants.Enter (One (2 * l)))
+          → Can (if b then act.Word l (Exchange seen (seen - 2)) else if seen == 0
+          then act.Word l (Exchange 0 1) else act.Enter (One (2 * l)))
       by_free true e = (semaphore_steps permits (semaphore_at l) st.owns).take seen (some_free seen e)
       by_free false e = by_word (seen == 0) refl
 
@@ -93,8 +93,8 @@ module _ (permits l : ℕ) (base : List Ownership) (st : ThreadState) where
   try_needs : (at : TryAt) → FitsTry base at st → Can (try_act l at)
   try_needs tries.Load f = (semaphore_steps permits (semaphore_at l) st.owns).load
   try_needs (tries.Decide seen) f =
-      subst (λ (b : Bool). Can (if b then act.TheVariants.Word l (Exchange seen (seen - 2))
-      else act.TheVariants.Word l Load)) (sym f.0)
+      subst (λ (b : Bool). Can (if b then act.Word l (Exchange seen (seen - 2))
+      else act.Word l Load)) (sym f.0)
       ((semaphore_steps permits (semaphore_at l) st.owns).take seen (some_free seen f.0))
 
   release_needs : (at : ReleaseAt) → FitsRelease l base at st → Can (release_act l at)
@@ -112,7 +112,7 @@ module _ (permits l : ℕ) (base : List Ownership) (st : ThreadState) where
   needs up (Release at) f = release_needs at f
 
   abbrev Owns : Op → ℕ → List Ownership
-  Owns op seen = owns_after_step (kinds.TheVariants.Semaphore permits) (semaphore_at l) op seen st.owns
+  Owns op seen = owns_after_step (kinds.Semaphore permits) (semaphore_at l) op seen st.owns
 
   -- where as many permits are free as before, nobody's change
   unchanged : (op : Op) (seen : ℕ) → apply op seen / 2 ≡ seen / 2 → Owns op seen ≡ st.owns
@@ -156,8 +156,8 @@ module _ (permits l : ℕ) (base : List Ownership) (st : ThreadState) where
   decides_on : (seen : ℕ) → answer_of (decided l seen) ≡ None
   decides_on seen = by_look (is_free seen) (seen == 0)
     where
-      by_look : (b c : Bool) → answer_of (if b then act.TheVariants.Word l (Exchange seen (seen - 2))
-          else if c then act.TheVariants.Word l (Exchange 0 1) else act.TheVariants.Enter (One (2 * l)))
+      by_look : (b c : Bool) → answer_of (if b then act.Word l (Exchange seen (seen - 2))
+          else if c then act.Word l (Exchange 0 1) else act.Enter (One (2 * l)))
           ≡ None
       by_look true c = refl
       by_look false true = refl
@@ -166,8 +166,8 @@ module _ (permits l : ℕ) (base : List Ownership) (st : ThreadState) where
   tries_on : (seen : ℕ) → answer_of (try_act l (tries.Decide seen)) ≡ None
   tries_on seen = by_look (is_free seen)
     where
-      by_look : (b : Bool) → answer_of (if b then act.TheVariants.Word l (Exchange seen (seen - 2))
-          else act.TheVariants.Word l Load) ≡ None
+      by_look : (b : Bool) → answer_of (if b then act.Word l (Exchange seen (seen - 2))
+          else act.Word l Load) ≡ None
       by_look true = refl
       by_look false = refl
 
@@ -188,7 +188,7 @@ module _ (permits l : ℕ) (base : List Ownership) (st : ThreadState) where
     stays inside s e o i f = (owns_of s e ∙ o ∙ f.0, inside_of s e ∙ i ∙ f.1)
 
     -- A thread has one permit more after a step that took one.
-    takes : (from : ℕ) → 2 ≤ from → Outside base st → new ≡ stepped (kinds.TheVariants.Semaphore permits)
+    takes : (from : ℕ) → 2 ≤ from → Outside base st → new ≡ stepped (kinds.Semaphore permits)
         (semaphore_at l) (Exchange from (from - 2)) from st → Outside (permit l ∷ base) new
     takes from some f x = (
       owns_of _ x ∙ (semaphore_trades permits (semaphore_at l) st.owns).takes from some
@@ -197,7 +197,7 @@ module _ (permits l : ℕ) (base : List Ownership) (st : ThreadState) where
     )
 
     abbrev Found : Op → ℕ → Type 0
-    Found op seen = new ≡ stepped (kinds.TheVariants.Semaphore permits) (semaphore_at l) op seen st
+    Found op seen = new ≡ stepped (kinds.Semaphore permits) (semaphore_at l) op seen st
 
     module _ (timed : Bool) where
       abbrev place : Bool → AcquireAt → Place
@@ -246,7 +246,7 @@ module _ (permits l : ℕ) (base : List Ownership) (st : ThreadState) where
           → Reached up base (place r (acquire.Decide from)) reply new
 
       by_take : (r : Bool) (from : ℕ) → is_free from ≡ true → Outside base st
-          → Leads r from (act.TheVariants.Word l (Exchange from (from - 2)))
+          → Leads r from (act.Word l (Exchange from (from - 2)))
       by_take r from free f (Value seen) b = dite (ℕ_discrete seen from)
           (λ e. subst (λ (s : ℕ). Found (Exchange from (from - 2)) s → Lands r s (s == from) (is_free s))
           (sym e) (λ x. took r from free (takes from (some_free from free) f x)) b.1)
@@ -254,11 +254,11 @@ module _ (permits l : ℕ) (base : List Ownership) (st : ThreadState) where
       by_take r from free f reply b = absurd b
 
       by_mark : (r : Bool) (from : ℕ) → is_free from ≡ false → Outside base st
-          → Leads r from (act.TheVariants.Word l (Exchange 0 1))
+          → Leads r from (act.Word l (Exchange 0 1))
       by_mark r from full f (Value seen) b = marked r from seen full (stays None _ b.1 (marks seen) refl f)
       by_mark r from full f reply b = absurd b
 
-      by_entry : (r : Bool) (from : ℕ) → Outside base st → Leads r from (act.TheVariants.Enter (One (2 * l)))
+      by_entry : (r : Bool) (from : ℕ) → Outside base st → Leads r from (act.Enter (One (2 * l)))
       by_entry r from f Done b = ((owns_of _ b ∙ f.0, inside_of _ b), refl)
       by_entry r from f reply b = absurd b
 
@@ -266,14 +266,14 @@ module _ (permits l : ℕ) (base : List Ownership) (st : ThreadState) where
       decides r from f = by_free (is_free from) refl
         where
           by_word : (c : Bool) → is_free from ≡ false
-              → Leads r from (if c then act.TheVariants.Word l (Exchange 0 1) else act.TheVariants.Enter
+              → Leads r from (if c then act.Word l (Exchange 0 1) else act.Enter
               (One (2 * l)))
           by_word true full = by_mark r from full f
           by_word false full = by_entry r from f
 
           by_free : (b : Bool) → is_free from ≡ b
-              → Leads r from (if b then act.TheVariants.Word l (Exchange from (from - 2)) else if from == 0
-              then act.TheVariants.Word l (Exchange 0 1) else act.TheVariants.Enter (One (2 * l)))
+              → Leads r from (if b then act.Word l (Exchange from (from - 2)) else if from == 0
+              then act.Word l (Exchange 0 1) else act.Enter (One (2 * l)))
           by_free true e = by_take r from e f
           by_free false e = by_word (from == 0) e
 
@@ -307,7 +307,7 @@ module _ (permits l : ℕ) (base : List Ownership) (st : ThreadState) where
       acquire_leads r acquire.Clear f (Value seen) b =
           ((f.0, stays _ _ b.1 (clears seen (few seen b.0)) refl f.1), refl)
         where
-          few : (seen : ℕ) → CodesWith (kinds.TheVariants.Semaphore permits) (semaphore_at l) seen st.owns
+          few : (seen : ℕ) → CodesWith (kinds.Semaphore permits) (semaphore_at l) seen st.owns
               → seen / 2 ≤ 4611686018427387904
           few seen code = let c = code.1.0 in omega arith
       acquire_leads r acquire.GiveUp f Done b =
@@ -349,12 +349,12 @@ module _ (permits l : ℕ) (base : List Ownership) (st : ThreadState) where
         (steps_of _ b.1)
     try_leads (tries.Decide from) f reply b =
         by_exchange reply (subst (λ (free : Bool). Became up (semaphores permits) (at_semaphore l)
-        (sleeper_at (Semaphore l (Try (tries.Decide from)))) st (if free then act.TheVariants.Word l
-        (Exchange from (from - 2)) else act.TheVariants.Word l Load) reply new) f.0 b)
+        (sleeper_at (Semaphore l (Try (tries.Decide from)))) st (if free then act.Word l
+        (Exchange from (from - 2)) else act.Word l Load) reply new) f.0 b)
       where
         by_exchange : (reply : Reply) → Became up (semaphores permits) (at_semaphore l)
             (sleeper_at (Semaphore l (Try (tries.Decide from)))) st
-            (act.TheVariants.Word l (Exchange from (from - 2))) reply new
+            (act.Word l (Exchange from (from - 2))) reply new
             → Reached up base (Semaphore l (Try (tries.Decide from))) reply new
         by_exchange (Value seen) b = dite (ℕ_discrete seen from)
             (λ e. subst (λ (s : ℕ). Found (Exchange from (from - 2)) s → Tried s (s == from)) (sym e)
@@ -376,7 +376,7 @@ module _ (permits l : ℕ) (base : List Ownership) (st : ThreadState) where
     release_leads (release.Clear any) f (Value seen) b =
         ((f.0, f.1, stays _ _ b.1 (clears seen (few seen b.0)) refl f.2), refl)
       where
-        few : (seen : ℕ) → CodesWith (kinds.TheVariants.Semaphore permits) (semaphore_at l) seen st.owns
+        few : (seen : ℕ) → CodesWith (kinds.Semaphore permits) (semaphore_at l) seen st.owns
             → seen / 2 ≤ 4611686018427387904
         few seen code = let c = code.1.0 in omega arith
     release_leads (release.Leave any) f Done b = (refl, (b.0 ∙ f.2.0, b.1), has_done _ _ _ f.2.1 b.2)
@@ -421,20 +421,20 @@ semaphore_place_leads up permits l base at st f = (
 
 -- no call of a semaphore runs a closure
 pub semaphore_no_closure : (l : ℕ) (state : OnceState) (at : SemaphorePlace) → semaphore_act l at
-    ≡ act.TheVariants.Closure state → ⊥
+    ≡ act.Closure state → ⊥
 semaphore_no_closure l state (Acquire timed r (acquire.Decide seen)) is = by_look (is_free seen) (seen == 0)
     is
   where
-    by_look : (b c : Bool) → (if b then act.TheVariants.Word l (Exchange seen (seen - 2)) else if c
-        then act.TheVariants.Word l (Exchange 0 1) else act.TheVariants.Enter (One (2 * l)))
-        ≡ act.TheVariants.Closure state → ⊥
+    by_look : (b c : Bool) → (if b then act.Word l (Exchange seen (seen - 2)) else if c
+        then act.Word l (Exchange 0 1) else act.Enter (One (2 * l)))
+        ≡ act.Closure state → ⊥
     by_look true c is = cc
     by_look false true is = cc
     by_look false false is = cc
 semaphore_no_closure l state (Try (tries.Decide seen)) is = by_look (is_free seen) is
   where
-    by_look : (b : Bool) → (if b then act.TheVariants.Word l (Exchange seen (seen - 2))
-        else act.TheVariants.Word l Load) ≡ act.TheVariants.Closure state → ⊥
+    by_look : (b : Bool) → (if b then act.Word l (Exchange seen (seen - 2))
+        else act.Word l Load) ≡ act.Closure state → ⊥
     by_look true is = cc
     by_look false is = cc
 semaphore_no_closure l state (Acquire t r acquire.Load) is = cc

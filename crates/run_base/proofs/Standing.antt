@@ -120,11 +120,11 @@ module _ (at : ℕ → ℕ) (me : ℕ) (p : Place) where
 
   brought_sleeps : (q : Place) (x y : List PathItem) (reply : Reply) → Stands x q → BringsBy at me q y reply
       → EachSleepStands (is_queued p) (x ++ y)
-  brought_sleeps q x y reply before brings = each_on (is_queued p) x y before.0
-      (subst (EachSleepStands (stands_after (is_queued p) x)) (sym brings.2)
-      (steps_sleep (stands_after (is_queued p) x) brings.0 brings.1
-      (sleeps_by me (stands_after (is_queued p) x) (act_of q) reply brings.1 brings.4
-      (λ needs. before.1 (brings.5.0 needs)))))
+  brought_sleeps q x y reply before will_bring = each_on (is_queued p) x y before.0
+      (subst (EachSleepStands (stands_after (is_queued p) x)) (sym will_bring.2)
+      (steps_sleep (stands_after (is_queued p) x) will_bring.0 will_bring.1
+      (sleeps_by me (stands_after (is_queued p) x) (act_of q) reply will_bring.1 will_bring.4
+      (λ needs. before.1 (will_bring.5.0 needs)))))
 
   either : {G S A B : Type 0} → (A → B) → G ⊎ (S × A) → G ⊎ (S × B)
   either f (inl got) = inl got
@@ -132,13 +132,13 @@ module _ (at : ℕ → ℕ) (me : ℕ) (p : Place) where
 
   stands_at : (q : Place) (x : List PathItem) → Course at me p x q → Stands x q
   stands_at _ _ (rests _) = (tt, λ queued. queued)
-  stands_at _ _ (goes _ q x y reply course brings) = let before = stands_at q x course in (
-    brought_sleeps q x y reply before brings,
+  stands_at _ _ (goes _ q x y reply course will_bring) = let before = stands_at q x course in (
+    brought_sleeps q x y reply before will_bring,
     λ queued. after_on (is_queued p) x y
-        ∙ (ap (stands_after (stands_after (is_queued p) x)) brings.2
-        ∙ (steps_stand (stands_after (is_queued p) x) brings.0 brings.1
-        ∙ stands_so me (stands_after (is_queued p) x) (act_of q) reply brings.1 brings.4
-        (either before.1 (brings.5.1 queued)))),
+        ∙ (ap (stands_after (stands_after (is_queued p) x)) will_bring.2
+        ∙ (steps_stand (stands_after (is_queued p) x) will_bring.0 will_bring.1
+        ∙ stands_so me (stands_after (is_queued p) x) (act_of q) reply will_bring.1 will_bring.4
+        (either before.1 (will_bring.5.1 queued)))),
   )
   stands_at r x (sees _ q _ _ course is) = let before = stands_at q x course in
       (before.0, λ queued. before.1 (queued_from q r (inr is) queued))
@@ -146,4 +146,4 @@ module _ (at : ℕ → ℕ) (me : ℕ) (p : Place) where
 pub each_sleep : SleepersStood
 each_sleep at me p path answer a = subst (EachSleepStands (is_queued p)) (sym a.whole)
     (brought_sleeps at me p a.last a.before a.more a.reply (stands_at at me p a.last a.before a.course)
-    a.brings)
+    a.will_bring)

@@ -482,19 +482,19 @@ module _ (at : ℕ → ℕ) (me : ℕ) (p : Place) where
 
   turned_on : (q : Place) (x y : List PathItem) (reply : Reply) → Follows x q → BringsBy at me q y reply
       → Follows (x ++ y) (next_place q reply)
-  turned_on q x y reply before brings = let b = only_stands (act_of p) in
-      let turn = turned at me (stepped_after b x) q brings.0 brings.1 reply brings.3 brings.4 before.1 in (
-        each_on b x y before.0 (subst (EachStandFollowsStep (stepped_after b x)) (sym brings.2) turn.0),
-        λ stands. after_on b x y ∙ ap (stepped_after (stepped_after b x)) brings.2 ∙ turn.1 stands,
+  turned_on q x y reply before will_bring = let b = only_stands (act_of p) in
+      let turn = turned at me (stepped_after b x) q will_bring.0 will_bring.1 reply will_bring.3 will_bring.4 before.1 in (
+        each_on b x y before.0 (subst (EachStandFollowsStep (stepped_after b x)) (sym will_bring.2) turn.0),
+        λ stands. after_on b x y ∙ ap (stepped_after (stepped_after b x)) will_bring.2 ∙ turn.1 stands,
       )
 
   follows_at : (q : Place) (x : List PathItem) → Course at me p x q → Follows x q
   follows_at _ _ (rests _) = (tt, λ stands. stands)
-  follows_at _ _ (goes _ q x y reply course brings) = turned_on q x y reply (follows_at q x course) brings
+  follows_at _ _ (goes _ q x y reply course will_bring) = turned_on q x y reply (follows_at q x course) will_bring
   follows_at r x (sees _ q _ _ course is) =
       let before = follows_at q x course in (before.0, λ stands. none (looks_on q r is) stands)
 
 pub each_stand : StandsFollowSteps
 each_stand at me p path answer a = subst (EachStandFollowsStep (only_stands (act_of p))) (sym a.whole)
     (turned_on at me p a.last a.before a.more a.reply (follows_at at me p a.last a.before a.course)
-    a.brings).0
+    a.will_bring).0

@@ -10,16 +10,16 @@ use Rattle.core_words.specs.declared.words.WordKind.{WordKind}
 use Rattle.lot_steps.specs.Steps.{act_of}
 use Rattle.lot_steps.specs.declared.places.Place.{Place}
 use Rattle.steps_base.specs.declared.acts.Act.{Act}
-use Rattle.steps_base.specs.declared.acts.Act as act
+use Rattle.steps_base.specs.declared.acts.Act.TheVariants as act
 use Rattle.steps_base.specs.declared.acts.Reply.{Reply}
 use Rattle.steps_base.specs.declared.acts.Reply.TheVariants.{Done, Parked, Picked, Removed, Requeued, Took}
 use Rattle.steps_base.specs.declared.acts.Reply.TheVariants.{Value}
 use Rattle.steps_base.specs.declared.acts.TakeWhich.{TakeWhich}
-use Rattle.steps_base.specs.declared.acts.TakeWhich as whom
+use Rattle.steps_base.specs.declared.acts.TakeWhich.TheVariants as whom
 use Rattle.parking_lot_core.specs.Tokens.{told_of}
 use Rattle.parking_lot_core.specs.declared.sections.Section.{Section}
 use Rattle.parking_lot_core.specs.declared.tellings.Telling.{Telling}
-use Rattle.parking_lot_core.specs.declared.tellings.Telling as telling
+use Rattle.parking_lot_core.specs.declared.tellings.Telling.TheVariants as telling
 use Rattle.parking_lot_core.specs.declared.tokens.Did as did
 use Rattle.parking_lot_core.specs.declared.tokens.Token.{Token}
 use Rattle.run_base.specs.Courses.{HasRecorded, OpenVisit, PathItem, Performs, TellsFound, TellsIn, Trail}
@@ -140,7 +140,7 @@ module _ (me : ℕ) (old new : Token) (so sn : Option Section) where
   takes : (key : ℕ) (who : TakeWhich) (reply : Reply) → HasKey key (section_view so)
       → TookBy key who reply (section_view so) (section_view sn) → TellsTake key who reply so sn
       → TellsFound key who reply (taking key who (length (threads_taken sn)) (length (line_in key sn)))
-  takes key whom.TheVariants.First (Took any left) has b q = (
+  takes key whom.First (Took any left) has b q = (
     length (threads_taken sn),
     length (line_in key sn),
     refl,
@@ -148,7 +148,7 @@ module _ (me : ℕ) (old new : Token) (so sn : Option Section) where
         (listed b.0) (section_view so) (section_view sn) has b.2),
     q.2,
   )
-  takes key whom.TheVariants.All (Took any left) has b q = (
+  takes key whom.All (Took any left) has b q = (
     length (threads_taken sn),
     length (line_in key sn),
     refl,
@@ -157,7 +157,7 @@ module _ (me : ℕ) (old new : Token) (so sn : Option Section) where
         (section_view sn) has b.2) ∙ all_threads b.0)),
     q.2,
   )
-  takes key (whom.TheVariants.Picked start recursive) (Picked sharers successor left) has b q =
+  takes key (whom.Picked start recursive) (Picked sharers successor left) has b q =
       (length (threads_taken sn), length (line_in key sn), refl, q.3)
   takes key who reply has b q = absurd q
 
@@ -171,33 +171,33 @@ module _ (me : ℕ) (old new : Token) (so sn : Option Section) where
     -- an act that was done has told what brings its reply
     pub has_done : (a : Act) (reply : Reply) → Needs a → Then a reply → Adds at a reply (steps_of old)
         (steps_of new) → TellsQueues a reply me so sn → TellsIn me a reply old so new sn → HasDone a reply
-    has_done (act.TheVariants.Word l op) (Value seen) needs b e q t =
+    has_done (act.Word l op) (Value seen) needs b e q t =
         ([], quiet t.0 t.1 t.2, ([], refl, refl))
-    has_done (act.TheVariants.HandOver l op) (Value seen) needs b e q t =
+    has_done (act.HandOver l op) (Value seen) needs b e q t =
         ([], quiet t.0 t.1 t.2, ([], refl, refl))
-    has_done (act.TheVariants.Park l key check want) (Parked true) needs b e q t =
-        let more = telling.TheVariants.Stood key me want ∷ [] in
+    has_done (act.Park l key check want) (Parked true) needs b e q t =
+        let more = telling.Stood key me want ∷ [] in
         (did_acts more, inside more t.0 t.1 t.2, (more, refl, refl))
-    has_done (act.TheVariants.Park l key check want) (Parked false) needs b e q t =
+    has_done (act.Park l key check want) (Parked false) needs b e q t =
         ([], quiet t.0 t.1 t.2, ([], refl, refl))
-    has_done (act.TheVariants.Enter keys) Done needs b e q t = (
+    has_done (act.Enter keys) Done needs b e q t = (
       did_enter keys ∷ [],
       same_trail refl (by_within new sn ∙ (ap (λ (l : List Telling). told_of new ++ l) t.1
           ∙ (append-nil (told_of new) ∙ (t.0 ∙ sym (by_outside old so needs.1)))))
           (t.2 ∙ ap (λ (l : List WordStep). Some (open_visit keys (steps_counted l))) (sym e)),
       refl,
     )
-    has_done (act.TheVariants.Stand key want) Done needs b e q t =
-        let more = telling.TheVariants.Stood key me want ∷ [] in
+    has_done (act.Stand key want) Done needs b e q t =
+        let more = telling.Stood key me want ∷ [] in
         (did_acts more, inside more t.0 t.1 t.2, (more, refl, refl))
-    has_done (act.TheVariants.Take key who) reply needs b e q t =
+    has_done (act.Take key who) reply needs b e q t =
         let more = taking key who (length (threads_taken sn)) (length (line_in key sn)) in
         (did_acts more, inside more t.0 t.1 t.2, (more, refl, takes key who reply needs.0 b.0 q))
-    has_done (act.TheVariants.Remove key) (Removed left) needs b e q t =
+    has_done (act.Remove key) (Removed left) needs b e q t =
         let more = leaving me key (length (line_in key sn)) in
         (did_acts more, inside more t.0 t.1 t.2, (more, refl, (length (line_in key sn), refl, q.1)))
-    has_done (act.TheVariants.Accept) Done needs b e q t = ([], quiet t.0 t.1 t.2, ([], refl, refl))
-    has_done (act.TheVariants.Leave keys wakes) Done needs b e q t = (
+    has_done (act.Accept) Done needs b e q t = ([], quiet t.0 t.1 t.2, ([], refl, refl))
+    has_done (act.Leave keys wakes) Done needs b e q t = (
       did_leave (note_of wakes) ∷ [],
       same_trail refl (by_outside new sn b.1 ∙ (t ∙ (sym (append_assoc (told_of old) (told_within so)
           (visited (visit_within so) (steps_counted (steps_of old)) (note_of wakes)))
@@ -207,13 +207,13 @@ module _ (me : ℕ) (old new : Token) (so sn : Option Section) where
           (no_visit sn b.1),
       refl,
     )
-    has_done act.TheVariants.Sleep reply needs b e q t = (
+    has_done act.Sleep reply needs b e q t = (
       t.0,
       t.1 ∙ ap (λ (x : Trail). recorded_all x t.0) (sym (outside_trail old so needs)
           ∙ ap (λ (l : List WordStep). trail_inside l (told_by old so) (visit_within so)) (sym e)),
       t.2,
     )
-    has_done (act.TheVariants.Requeue from to how) (Requeued number left) needs b e q t =
+    has_done (act.Requeue from to how) (Requeued number left) needs b e q t =
         let more = moving from to how (length (threads_taken sn)) (length (moved_by how (line_in from so)))
         (length (line_in from sn)) in (
           did_acts more,

@@ -23,8 +23,8 @@ use Rattle.steps_base.specs.declared.acts.Next.{Next}
 use Rattle.steps_base.specs.declared.acts.Next.TheVariants.{At, End}
 use Rattle.steps_mutex.specs.declared.places.MutexPlace.{MutexPlace}
 use Rattle.steps_base.specs.declared.acts.Act.{Act}
-use Rattle.steps_base.specs.declared.acts.Act as act
-use Rattle.steps_base.specs.declared.acts.TakeWhich as whom
+use Rattle.steps_base.specs.declared.acts.Act.TheVariants as act
+use Rattle.steps_base.specs.declared.acts.TakeWhich.TheVariants as whom
 use Rattle.steps_base.specs.declared.acts.Reply.{Reply}
 use Rattle.steps_base.specs.declared.acts.Reply.TheVariants.{Done, Value, Parked, Took, Picked, Requeued}
 use Rattle.steps_base.specs.declared.acts.Reply.TheVariants.{Removed, MovedTo, Late, Woken}
@@ -75,53 +75,53 @@ pub told : (up : Type 0) (at : ℕ → ℕ) (kinds : ℕ → WordKind) (p : Plac
     → closure_of a ≡ None → (st new : ThreadState) (reply : Reply) (before afterwards : List WordStep)
     → Became up kinds at (sleeper_at p) st a reply new → Adds at a reply before afterwards
     → Told at p reply before afterwards
-told up at kinds p (act.TheVariants.Word l op) is runs st new (Value seen) before afterwards b e =
+told up at kinds p (act.Word l op) is runs st new (Value seen) before afterwards b e =
     (step (at l) op seen, e, word p l op seen is)
-told up at kinds p (act.TheVariants.HandOver l op) is runs st new (Value seen) before afterwards b e =
+told up at kinds p (act.HandOver l op) is runs st new (Value seen) before afterwards b e =
     (step (at l) op seen, e, hands p l op seen is)
-told up at kinds p (act.TheVariants.Park l key check want) is runs st new (Parked parked) before afterwards b
+told up at kinds p (act.Park l key check want) is runs st new (Parked parked) before afterwards b
     e = (
       step (at l) Load e.0,
       e.2,
       subst (λ (x : Bool). Brings at p (step (at l) Load e.0) (Parked x)) (sym e.1)
           (parks p l key check want e.0 is),
     )
-told up at kinds p (act.TheVariants.Enter keys) is runs st new Done before afterwards b e =
-    wordless at p (act.TheVariants.Enter keys) Done before afterwards is refl refl tt e
-told up at kinds p (act.TheVariants.Stand key want) is runs st new Done before afterwards b e =
-    wordless at p (act.TheVariants.Stand key want) Done before afterwards is refl refl tt e
-told up at kinds p (act.TheVariants.Take key whom.TheVariants.First) is runs st new (Took any left) before
-    afterwards b e = wordless at p (act.TheVariants.Take key whom.TheVariants.First) (Took any left) before
+told up at kinds p (act.Enter keys) is runs st new Done before afterwards b e =
+    wordless at p (act.Enter keys) Done before afterwards is refl refl tt e
+told up at kinds p (act.Stand key want) is runs st new Done before afterwards b e =
+    wordless at p (act.Stand key want) Done before afterwards is refl refl tt e
+told up at kinds p (act.Take key whom.First) is runs st new (Took any left) before
+    afterwards b e = wordless at p (act.Take key whom.First) (Took any left) before
     afterwards
     is refl refl tt e
-told up at kinds p (act.TheVariants.Take key whom.TheVariants.All) is runs st new (Took any left) before
-    afterwards b e = wordless at p (act.TheVariants.Take key whom.TheVariants.All) (Took any left) before
+told up at kinds p (act.Take key whom.All) is runs st new (Took any left) before
+    afterwards b e = wordless at p (act.Take key whom.All) (Took any left) before
     afterwards
     is refl refl tt e
-told up at kinds p (act.TheVariants.Take key (whom.TheVariants.Picked start recursive)) is runs st new
+told up at kinds p (act.Take key (whom.Picked start recursive)) is runs st new
     (Picked sharers successor left) before afterwards b e =
-    wordless at p (act.TheVariants.Take key (whom.TheVariants.Picked start recursive))
+    wordless at p (act.Take key (whom.Picked start recursive))
     (Picked sharers successor left) before afterwards is refl refl tt e
-told up at kinds p (act.TheVariants.Take key who) is runs st new reply before afterwards b e = absurd b.0
-told up at kinds p (act.TheVariants.Requeue from to how) is runs st new (Requeued number left) before
+told up at kinds p (act.Take key who) is runs st new reply before afterwards b e = absurd b.0
+told up at kinds p (act.Requeue from to how) is runs st new (Requeued number left) before
     afterwards b
-    e = wordless at p (act.TheVariants.Requeue from to how) (Requeued number left) before afterwards is refl
+    e = wordless at p (act.Requeue from to how) (Requeued number left) before afterwards is refl
     refl
     tt e
-told up at kinds p (act.TheVariants.Remove key) is runs st new (Removed left) before afterwards b e =
-    wordless at p (act.TheVariants.Remove key) (Removed left) before afterwards is refl refl tt e
-told up at kinds p (act.TheVariants.Leave keys wakes) is runs st new Done before afterwards b e =
-    wordless at p (act.TheVariants.Leave keys wakes) Done before afterwards is refl refl tt e
-told up at kinds p act.TheVariants.Sleep is runs st new (Woken note) before afterwards b e =
-    wordless at p act.TheVariants.Sleep (Woken note) before afterwards is refl refl tt e
-told up at kinds p act.TheVariants.Sleep is runs st new Late before afterwards b e =
-    wordless at p act.TheVariants.Sleep Late before afterwards is refl refl (has_deadline p b.0 b.1.0) e
-told up at kinds p act.TheVariants.Sleep is runs st new (MovedTo key) before afterwards b e =
-    wordless at p act.TheVariants.Sleep (MovedTo key) before afterwards is refl refl
+told up at kinds p (act.Remove key) is runs st new (Removed left) before afterwards b e =
+    wordless at p (act.Remove key) (Removed left) before afterwards is refl refl tt e
+told up at kinds p (act.Leave keys wakes) is runs st new Done before afterwards b e =
+    wordless at p (act.Leave keys wakes) Done before afterwards is refl refl tt e
+told up at kinds p act.Sleep is runs st new (Woken note) before afterwards b e =
+    wordless at p act.Sleep (Woken note) before afterwards is refl refl tt e
+told up at kinds p act.Sleep is runs st new Late before afterwards b e =
+    wordless at p act.Sleep Late before afterwards is refl refl (has_deadline p b.0 b.1.0) e
+told up at kinds p act.Sleep is runs st new (MovedTo key) before afterwards b e =
+    wordless at p act.Sleep (MovedTo key) before afterwards is refl refl
     (λ none. b.2 (is_late_at p ∙ none)) e
-told up at kinds p act.TheVariants.Accept is runs st new Done before afterwards b e =
-    wordless at p act.TheVariants.Accept Done before afterwards is refl refl tt e
-told up at kinds p (act.TheVariants.Closure state) is runs st new reply before afterwards b e =
+told up at kinds p act.Accept is runs st new Done before afterwards b e =
+    wordless at p act.Accept Done before afterwards is refl refl tt e
+told up at kinds p (act.Closure state) is runs st new reply before afterwards b e =
     absurd (some_closure runs)
 told up at kinds p a is runs st new reply before afterwards b e = absurd b
 

@@ -2,7 +2,7 @@
 use Rattle.std.proofs.Common.{ℕ, ◌≡◌, true, None, Some, List, Option, refl, sym, ap, ◌∙◌, subst}
 use Rattle.core_base.specs.declared.ops.Op.{Op}
 use Rattle.steps_base.specs.declared.acts.Act.{Act}
-use Rattle.steps_base.specs.declared.acts.Act as act
+use Rattle.steps_base.specs.declared.acts.Act.TheVariants as act
 use Rattle.steps_base.specs.declared.acts.Reply.TheVariants.{Done, Value}
 use Rattle.steps_base.specs.declared.acts.Reply.{Reply}
 use Rattle.spec_locks.specs.declared.outcomes.Answer.{Answer}
@@ -73,18 +73,18 @@ module _ (up : Type 0) (lot : ParkingLot) (words : Words) (p : Place) (old new :
 
 -- a thread that accepts the lock that it was handed does nothing
 pub accepts : (up : Type 0) (lot : ParkingLot) (words : Words) (p : Place) (token : Token)
-    (section : Option Section) → act_of p ≡ act.TheVariants.Accept → IsAtPlace up lot words p token section
+    (section : Option Section) → act_of p ≡ act.Accept → IsAtPlace up lot words p token section
     → HasTurned up lot words p Done token section token section
 accepts up lot words p token section is at =
-    turned_by up lot words p token token section section act.TheVariants.Accept Done is refl at (at.0, refl)
+    turned_by up lot words p token token section section act.Accept Done is refl at (at.0, refl)
     at.2 refl refl tt (refl, refl, refl)
 
 -- a sleeper has its place still where it is queued
 pub slept_on : (up : Type 0) (lot : ParkingLot) (words : Words) (p : Place) (old new : Token)
     (section now : Option Section) (reply : Reply) (queue then : Option QueuePlace)
-    → IsAtPlace up lot words p old section → act_of p ≡ act.TheVariants.Sleep
-    → Became up (kind_in words) (at_in words) (sleeper_at p) (stage_of old section) act.TheVariants.Sleep
-    reply (stage_of new now) → new.number ≡ old.number → KeepsPlace lot old.number act.TheVariants.Sleep
+    → IsAtPlace up lot words p old section → act_of p ≡ act.Sleep
+    → Became up (kind_in words) (at_in words) (sleeper_at p) (stage_of old section) act.Sleep
+    reply (stage_of new now) → new.number ≡ old.number → KeepsPlace lot old.number act.Sleep
     reply queue then → HasPlace lot old.number queue → is_queued (next_place p reply) ≡ true
     → HasPlace lot new.number then
 slept_on up lot words p old new section now reply queue then at is became e keeps has queued =
@@ -92,7 +92,7 @@ slept_on up lot words p old new section now reply queue then at is became e keep
     reply p at.4.1 (subst (λ (b : Act). Became up (kind_in words) (at_in words) (sleeper_at p)
     (stage_of old section) b reply (stage_of new now)) (sym is) became) in
     subst (λ (k : ℕ). HasPlace lot k then) (sym e)
-    (keeps_on lot old.number act.TheVariants.Sleep reply queue then (is_queued p)
+    (keeps_on lot old.number act.Sleep reply queue then (is_queued p)
     (is_queued (next_place p reply))
     (subst (λ (b : Act). GoesOn (is_queued p) (is_queued (next_place p reply)) b reply) is goes) keeps
     (λ was. has) queued)
@@ -100,7 +100,7 @@ slept_on up lot words p old new section now reply queue then at is became e keep
 -- a step on a word
 pub word_turned : (up : Type 0) (lot : ParkingLot) (words : Words) (p : Place) (old new : Token)
     (section : Option Section) (lock : ℕ) (op : Op) (seen : ℕ) (w : Word) → w ≡ word_among words lock
-    → act_of p ≡ act.TheVariants.Word lock op → IsAtPlace up lot words p old section
+    → act_of p ≡ act.Word lock op → IsAtPlace up lot words p old section
     → IsSameThread lot old new
     → view_of new ≡ after_step w.kind (word_index w.number w.kind) op seen (view_of old) → last_of new ≡ None
     → CodesWith w.kind (word_index w.number w.kind) seen (view_of old).owns → told_of new ≡ told_of old
@@ -110,7 +110,7 @@ word_turned up lot words p old new section lock op seen w e is at same stepped l
     (view_of old)) e stepped in
     let code = subst (λ (w : Word). CodesWith w.kind (word_index w.number w.kind) seen (view_of old).owns) e
     coded in
-    turned_by up lot words p old new section section (act.TheVariants.Word lock op) (Value seen) is refl at
+    turned_by up lot words p old new section section (act.Word lock op) (Value seen) is refl at
     same at.2
     (by_stage (word_among words lock) op seen old section new then last code)
     (ap (λ (v : View). v.steps) then) tt (untold, refl, refl)

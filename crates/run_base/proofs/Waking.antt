@@ -74,7 +74,7 @@ module _ (old mid : Token) (steps : steps_of mid ≡ steps_of old)
       → HasSlept me (Woken note) old mid sn
   slept_woken me note sn none = (did_sleep ∷ [], outside_trail mid sn none ∙ sleeps, inl refl)
 
-  -- its time is up
+  -- the time of the sleeper is up
   pub slept_late : (me key : ℕ) (reply : Reply) (new : Token) (sn : Option Section) → mid.number ≡ me
       → HasWokenLate mid.number key reply mid new sn → HasSlept me reply old new sn
   slept_late me key reply new sn same late = by_reply reply

@@ -5,7 +5,7 @@ use Rattle.core_base.specs.declared.ops.Op.TheVariants.{Load, Sub, Or, Exchange}
 use Rattle.spec_locks.specs.declared.calls.MutexCall.{MutexCall}
 use Rattle.spec_locks.specs.declared.calls.MutexCall.TheVariants as call
 use Rattle.steps_mutex.specs.MutexSteps.{mutex_first, is_locked, is_parked}
-use Rattle.steps_mutex.specs.declared.lock.Entry as entry
+use Rattle.steps_mutex.specs.declared.lock.Entry.TheVariants as entry
 use Rattle.lot_steps.specs.declared.places.Place.{Place}
 use Rattle.lot_steps.specs.declared.places.Place.TheVariants.{Mutex}
 use Rattle.core_words.specs.Lots.{IsWordOf}
@@ -13,7 +13,7 @@ use Rattle.core_words.specs.Steps.{has}
 use Rattle.core_words.specs.declared.owners.Ownership.{Ownership}
 use Rattle.core_words.specs.declared.views.WordStep.{WordStep}
 use Rattle.core_words.specs.declared.words.Word.{Word}
-use Rattle.core_words.specs.declared.words.WordKind as kinds
+use Rattle.core_words.specs.declared.words.WordKind.TheVariants as kinds
 use Rattle.parking_lot_core.specs.declared.lot.ParkingLot.{ParkingLot}
 use Rattle.parking_lot_core.specs.declared.tokens.SectionRecord.{SectionRecord}
 use Rattle.run_base.specs.MutexFitting.{MutexPurpose, to_enter, to_release, to_hand_over, TookAt}
@@ -28,7 +28,7 @@ use Rattle.run_base.specs.Telling.{steps_of}
 -- a thread of the lot, and a mutex of it whose keys are numbers
 abbrev pub MeetAt : ParkingLot → Token → Word → Type 0
 MeetAt lot token word = IsTokenOf lot token × IsWordOf lot.words word
-    × (word.kind ≡ kinds.TheVariants.Mutex) × (word.number < 9223372036854775808)
+    × (word.kind ≡ kinds.Mutex) × (word.number < 9223372036854775808)
 
 -- where a call of a mutex begins
 abbrev pub beginning : ℕ → MutexCall → Place
@@ -45,10 +45,10 @@ first_op call.Bump = Load
 
 -- the aim of a call after its first operation
 abbrev pub purpose_in : MutexCall → MutexPurpose
-purpose_in call.Lock = to_enter entry.TheVariants.Lock
-purpose_in call.LockTimed = to_enter entry.TheVariants.LockTimed
+purpose_in call.Lock = to_enter entry.Lock
+purpose_in call.LockTimed = to_enter entry.LockTimed
 purpose_in call.UnlockFair = to_hand_over
-purpose_in call.Bump = to_enter entry.TheVariants.Bump
+purpose_in call.Bump = to_enter entry.Bump
 purpose_in _ = to_release
 
 -- a call goes on after the value that its first operation saw; a thread that is to hand the mutex over owns

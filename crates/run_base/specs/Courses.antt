@@ -10,12 +10,12 @@ use Rattle.core_base.specs.declared.notes.Note.TheVariants.{Normal}
 use Rattle.core_base.specs.declared.requeues.Requeue.{Requeue}
 use Rattle.core_words.specs.declared.views.WordStep.{WordStep}
 use Rattle.steps_base.specs.declared.acts.Act.{Act}
-use Rattle.steps_base.specs.declared.acts.Act as act
+use Rattle.steps_base.specs.declared.acts.Act.TheVariants as act
 use Rattle.steps_base.specs.declared.acts.Reply.{Reply}
 use Rattle.steps_base.specs.declared.acts.Reply.TheVariants.{Done, Late, MovedTo, Parked, Picked, Removed}
 use Rattle.steps_base.specs.declared.acts.Reply.TheVariants.{Requeued, Took, Woken}
 use Rattle.steps_base.specs.declared.acts.TakeWhich.{TakeWhich}
-use Rattle.steps_base.specs.declared.acts.TakeWhich as whom
+use Rattle.steps_base.specs.declared.acts.TakeWhich.TheVariants as whom
 use Rattle.spec_locks.specs.declared.outcomes.Answer.{Answer}
 use Rattle.lot_steps.specs.Steps.{act_of, respins_from, next_act, next_place}
 use Rattle.lot_steps.specs.declared.places.Place.{Place}
@@ -24,9 +24,9 @@ use Rattle.parking_lot_core.specs.Tokens.{as_count, told_of}
 use Rattle.parking_lot_core.specs.declared.sections.Section.{Section}
 use Rattle.parking_lot_core.specs.declared.step_counts.StepCount.{StepCount}
 use Rattle.parking_lot_core.specs.declared.tellings.Telling.{Telling}
-use Rattle.parking_lot_core.specs.declared.tellings.Telling as telling
+use Rattle.parking_lot_core.specs.declared.tellings.Telling.TheVariants as telling
 use Rattle.parking_lot_core.specs.declared.tokens.Did.{Did}
-use Rattle.parking_lot_core.specs.declared.tokens.Did as did
+use Rattle.parking_lot_core.specs.declared.tokens.Did.TheVariants as did
 use Rattle.parking_lot_core.specs.declared.tokens.Token.{Token}
 use Rattle.run_base.specs.Paths.{Brings}
 use Rattle.run_base.specs.Queued.{StaysQueued, is_queued}
@@ -76,7 +76,7 @@ steps_counted steps = as_count (length steps)
 -- a visit that ends after so many steps, with this note
 abbrev pub visited : Option OpenVisit → StepCount → Note → List Telling
 visited None to note = []
-visited (Some visit) to note = telling.TheVariants.Visited visit.keys visit.from to note ∷ []
+visited (Some visit) to note = telling.Visited visit.keys visit.from to note ∷ []
 
 -- a thread records what it does. A visit is told as it ends, with the number of steps before it and after
 -- it, and each sleep with the number of steps before it
@@ -87,7 +87,7 @@ recorded x (did_act one) = trail_inside x.steps (x.told ++ one ∷ []) x.inside
 recorded x (did_leave note) =
     trail_inside x.steps (x.told ++ visited x.inside (steps_counted x.steps) note) None
 recorded x did_sleep =
-    trail_inside x.steps (x.told ++ telling.TheVariants.Slept (steps_counted x.steps) ∷ []) x.inside
+    trail_inside x.steps (x.told ++ telling.Slept (steps_counted x.steps) ∷ []) x.inside
 
 -- all of these, one after the other
 abbrev pub recorded_all : Trail → List PathItem → Trail
@@ -129,24 +129,24 @@ visit_within (Some section) = Some (open_visit section.keys section.since)
 
 -- what a take does in a section
 abbrev pub did_by : ℕ → TakeWhich → Did
-did_by key whom.TheVariants.First = did.TheVariants.TakeFirst key
-did_by key whom.TheVariants.All = did.TheVariants.TakeAll key
-did_by key (whom.TheVariants.Picked start recursive) = did.TheVariants.TakePicked key start recursive
+did_by key whom.First = did.TakeFirst key
+did_by key whom.All = did.TakeAll key
+did_by key (whom.Picked start recursive) = did.TakePicked key start recursive
 
 -- a take tells how many it took, and how many are left
 abbrev pub taking : ℕ → TakeWhich → ℕ → ℕ → List Telling
 taking key who taken left =
-    telling.TheVariants.Took (did_by key who) taken 0 ∷ telling.TheVariants.Counted key left ∷ []
+    telling.Took (did_by key who) taken 0 ∷ telling.Counted key left ∷ []
 
 -- a requeue tells how many it took and moved, and how many are left
 abbrev pub moving : ℕ → ℕ → Requeue → ℕ → ℕ → ℕ → List Telling
 moving from to how taken moved left =
-    telling.TheVariants.Took (did.TheVariants.Requeue from to how) taken moved
-    ∷ telling.TheVariants.Counted from left ∷ []
+    telling.Took (did.Requeue from to how) taken moved
+    ∷ telling.Counted from left ∷ []
 
 -- an own leave of the queue tells the thread, and how many are left
 abbrev pub leaving : ℕ → ℕ → ℕ → List Telling
-leaving me key left = telling.TheVariants.Left me ∷ telling.TheVariants.Counted key left ∷ []
+leaving me key left = telling.Left me ∷ telling.Counted key left ∷ []
 
 -- by these it found somebody, and left nobody
 abbrev pub TellsFound : ℕ → TakeWhich → Reply → List Telling → Type 0
@@ -159,15 +159,15 @@ TellsFound key who reply tellings = ⊥
 -- an act on the queues of the thread's section tells these, which bring the reply: a thread that parked or
 -- stands did so after the last
 abbrev pub Tells : ℕ → Act → Reply → List Telling → Type 0
-Tells me (act.TheVariants.Park lock key check want) (Parked parked) tellings =
-    tellings ≡ (if parked then telling.TheVariants.Stood key me want ∷ [] else [])
-Tells me (act.TheVariants.Stand key want) Done tellings =
-    tellings ≡ telling.TheVariants.Stood key me want ∷ []
-Tells me (act.TheVariants.Take key who) reply tellings = TellsFound key who reply tellings
-Tells me (act.TheVariants.Requeue from to how) (Requeued number none_left) tellings =
+Tells me (act.Park lock key check want) (Parked parked) tellings =
+    tellings ≡ (if parked then telling.Stood key me want ∷ [] else [])
+Tells me (act.Stand key want) Done tellings =
+    tellings ≡ telling.Stood key me want ∷ []
+Tells me (act.Take key who) reply tellings = TellsFound key who reply tellings
+Tells me (act.Requeue from to how) (Requeued number none_left) tellings =
     (taken moved left : ℕ) × (tellings ≡ moving from to how taken moved left)
     × (number ≡ taken + moved) × (none_left ≡ (left == 0))
-Tells me (act.TheVariants.Remove key) (Removed none_left) tellings = (left : ℕ)
+Tells me (act.Remove key) (Removed none_left) tellings = (left : ℕ)
     × (tellings ≡ leaving me key left)
     × (none_left ≡ (left == 0))
 Tells me a reply tellings = tellings ≡ []
@@ -175,7 +175,7 @@ Tells me a reply tellings = tellings ≡ []
 -- a thread leaves the queue of a key by itself, in a visit of its own
 abbrev pub leaving_late : ℕ → ℕ → List PathItem
 leaving_late me key =
-    did_enter (One key) ∷ did_act (telling.TheVariants.Left me) ∷ did_leave Normal ∷ []
+    did_enter (One key) ∷ did_act (telling.Left me) ∷ did_leave Normal ∷ []
 
 -- once its time is up a thread is inside the section of the key where it stands; or it was moved; or it
 -- leaves that queue by itself
@@ -195,9 +195,9 @@ SleepsBy me reply items = ⊥
 
 -- what an act of this thread does beside its step on a word
 abbrev pub Performs : ℕ → Act → Reply → List PathItem → Type 0
-Performs me (act.TheVariants.Enter keys) reply items = items ≡ did_enter keys ∷ []
-Performs me (act.TheVariants.Leave keys wakes) reply items = items ≡ did_leave (note_of wakes) ∷ []
-Performs me act.TheVariants.Sleep reply items = SleepsBy me reply items
+Performs me (act.Enter keys) reply items = items ≡ did_enter keys ∷ []
+Performs me (act.Leave keys wakes) reply items = items ≡ did_leave (note_of wakes) ∷ []
+Performs me act.Sleep reply items = SleepsBy me reply items
 Performs me a reply items =
     (tellings : List Telling) × (items ≡ did_acts tellings) × Tells me a reply tellings
 
@@ -205,7 +205,7 @@ Performs me a reply items =
 abbrev pub trail_of : Token → Option Section → Trail
 trail_of token section = trail_inside (steps_of token) (told_by token section) (visit_within section)
 
--- these bring the reply at a place, a step on the word first; and the thread stays queued or not
+-- items that bring the reply at a place, a step on the word first; and the thread stays queued or not
 abbrev pub BringsBy : (ℕ → ℕ) → ℕ → Place → List PathItem → Reply → Type 0
 BringsBy at me p items reply = (stepped : List WordStep) × (done : List PathItem)
     × (items ≡ did_steps stepped ++ done) × Brings at p stepped reply × Performs me (act_of p) reply done
@@ -216,7 +216,7 @@ abbrev pub HasRecorded : (ℕ → ℕ) → ℕ → Place → Reply → Trail →
 HasRecorded at me p reply old new =
     (items : List PathItem) × (new ≡ recorded_all old items) × BringsBy at me p items reply
 
--- these lead from one place to another
+-- items that lead from one place to another
 pub data Course (at : ℕ → ℕ) (me : ℕ) : Place → List PathItem → Place → Type 0 where
   rests : (p : Place) → Course at me p [] p
   goes : (p q : Place) (x y : List PathItem) (reply : Reply) → Course at me p x q
@@ -232,9 +232,9 @@ pub record Arrival (at : ℕ → ℕ) (me : ℕ) (p : Place) (all : List PathIte
   pub more : List PathItem
   pub reply : Reply
   pub course : Course at me p before last
-  pub brings : BringsBy at me last more reply
+  pub will_bring : BringsBy at me last more reply
   pub whole : all ≡ before ++ more
-  pub ends : next_act last reply ≡ act.TheVariants.End answer
+  pub ends : next_act last reply ≡ act.End answer
 
 -- what a thread has recorded since leads from a place to the end of its call
 abbrev pub Courses : (ℕ → ℕ) → ℕ → Place → Trail → Trail → Answer → Type 0
@@ -244,7 +244,7 @@ Courses at me p old new answer =
 -- after a reply that ended its call there is no more, and else it goes on from where the reply led
 abbrev pub CoursesAfterReply : (ℕ → ℕ) → ℕ → Place → Reply → Trail → Trail → Answer → Type 0
 CoursesAfterReply at me p reply old new answer =
-    ((new ≡ old) × (next_act p reply ≡ act.TheVariants.End answer))
+    ((new ≡ old) × (next_act p reply ≡ act.End answer))
     ⊎ Courses at me (next_place p reply) old new answer
 
 -- what a thread has recorded since leads from one place to another
@@ -258,12 +258,12 @@ RunsCourse at me p old new (Paused place state) = ComesBy at me p old new place
 
 -- whether a thread stands in a queue after an act on it
 abbrev pub stands_by : Telling → Bool → Bool
-stands_by (telling.TheVariants.Stood _ _ _) stands = true
-stands_by (telling.TheVariants.Left _) stands = false
-stands_by (telling.TheVariants.Took _ _ _) stands = stands
-stands_by (telling.TheVariants.Counted _ _) stands = stands
-stands_by (telling.TheVariants.Visited _ _ _ _) stands = stands
-stands_by (telling.TheVariants.Slept _) stands = stands
+stands_by (telling.Stood _ _ _) stands = true
+stands_by (telling.Left _) stands = false
+stands_by (telling.Took _ _ _) stands = stands
+stands_by (telling.Counted _ _) stands = stands
+stands_by (telling.Visited _ _ _ _) stands = stands
+stands_by (telling.Slept _) stands = stands
 
 -- each sleep among these follows a stand of the thread, which has not left its queue by itself since. It
 -- stands in a queue at their beginning, or not
@@ -282,12 +282,12 @@ SleepersStood = (at : ℕ → ℕ) (me : ℕ) (p : Place) (path : List PathItem)
 
 -- whether the thread stood last in a queue
 abbrev pub is_stand : Telling → Bool
-is_stand (telling.TheVariants.Stood _ _ _) = true
-is_stand (telling.TheVariants.Took _ _ _) = false
-is_stand (telling.TheVariants.Counted _ _) = false
-is_stand (telling.TheVariants.Left _) = false
-is_stand (telling.TheVariants.Visited _ _ _ _) = false
-is_stand (telling.TheVariants.Slept _) = false
+is_stand (telling.Stood _ _ _) = true
+is_stand (telling.Took _ _ _) = false
+is_stand (telling.Counted _ _) = false
+is_stand (telling.Left _) = false
+is_stand (telling.Visited _ _ _ _) = false
+is_stand (telling.Slept _) = false
 
 -- each stand among these is in the visit in which the thread took its last step on a word: since that step it
 -- has neither entered nor left a section. At their beginning it has taken one so, or not
@@ -302,7 +302,7 @@ EachStandFollowsStep stepped (did_act one ∷ more) =
 
 -- an act that stands in a queue, after a step of an act before
 abbrev pub only_stands : Act → Bool
-only_stands (act.TheVariants.Stand key _) = true
+only_stands (act.Stand key _) = true
 only_stands _ = false
 
 -- in each call that came to its answer each stand is in the visit of a step: no thread stands by a word that
@@ -323,33 +323,33 @@ HasWokenLate me key reply old new sn = (items : List PathItem)
 
 -- an act at the thread's hand: what it told its thread, what its section tells, and the visit that goes on
 abbrev pub TellsIn : ℕ → Act → Reply → Token → Option Section → Token → Option Section → Type 0
-TellsIn me (act.TheVariants.Park lock key check want) (Parked parked) old so new sn =
+TellsIn me (act.Park lock key check want) (Parked parked) old so new sn =
     (told_of new ≡ told_of old)
-    × MatchBool parked (told_within sn ≡ told_within so ++ telling.TheVariants.Stood key me want ∷ [])
+    × MatchBool parked (told_within sn ≡ told_within so ++ telling.Stood key me want ∷ [])
     (told_within sn ≡ told_within so)
     × (visit_within sn ≡ visit_within so)
-TellsIn me (act.TheVariants.Stand key want) Done old so new sn = (told_of new ≡ told_of old)
-    × (told_within sn ≡ told_within so ++ telling.TheVariants.Stood key me want ∷ [])
+TellsIn me (act.Stand key want) Done old so new sn = (told_of new ≡ told_of old)
+    × (told_within sn ≡ told_within so ++ telling.Stood key me want ∷ [])
     × (visit_within sn ≡ visit_within so)
-TellsIn me (act.TheVariants.Take key who) reply old so new sn = (told_of new ≡ told_of old)
+TellsIn me (act.Take key who) reply old so new sn = (told_of new ≡ told_of old)
     × (told_within sn ≡ told_within so
     ++ taking key who (length (threads_taken sn)) (length (line_in key sn)))
     × (visit_within sn ≡ visit_within so)
-TellsIn me (act.TheVariants.Requeue from to how) (Requeued number none_left) old so new sn =
+TellsIn me (act.Requeue from to how) (Requeued number none_left) old so new sn =
     (told_of new ≡ told_of old)
     × (told_within sn ≡ told_within so ++ moving from to how (length (threads_taken sn))
     (length (moved_by how (line_in from so))) (length (line_in from sn)))
     × (visit_within sn ≡ visit_within so)
     × (number ≡ length (threads_taken sn) + length (moved_by how (line_in from so)))
-TellsIn me (act.TheVariants.Remove key) reply old so new sn = (told_of new ≡ told_of old)
+TellsIn me (act.Remove key) reply old so new sn = (told_of new ≡ told_of old)
     × (told_within sn ≡ told_within so ++ leaving me key (length (line_in key sn)))
     × (visit_within sn ≡ visit_within so)
-TellsIn me (act.TheVariants.Enter keys) reply old so new sn = (told_of new ≡ told_of old)
+TellsIn me (act.Enter keys) reply old so new sn = (told_of new ≡ told_of old)
     × (told_within sn ≡ []) × (visit_within sn ≡ Some (open_visit keys (steps_counted (steps_of old))))
-TellsIn me (act.TheVariants.Leave keys wakes) reply old so new sn = told_of new
+TellsIn me (act.Leave keys wakes) reply old so new sn = told_of new
     ≡ told_of old ++ (told_within so
     ++ visited (visit_within so) (steps_counted (steps_of old)) (note_of wakes))
-TellsIn me act.TheVariants.Sleep reply old so new sn =
+TellsIn me act.Sleep reply old so new sn =
     HasSlept me reply old new sn
 TellsIn me a reply old so new sn = (told_of new ≡ told_of old) × (told_within sn ≡ told_within so)
     × (visit_within sn ≡ visit_within so)

@@ -6,7 +6,7 @@ use Rattle.core_base.specs.declared.wants.Want.TheVariants.{Exclusive}
 use Rattle.spec_locks.specs.declared.outcomes.Answer.{Answer}
 use Rattle.lot_steps.specs.Steps.{act_of, next_place, next_act, respins_from, HasKeys}
 use Rattle.steps_base.specs.declared.acts.Act.{Act}
-use Rattle.steps_base.specs.declared.acts.Act as act
+use Rattle.steps_base.specs.declared.acts.Act.TheVariants as act
 use Rattle.steps_base.specs.declared.acts.Reply.{Reply}
 use Rattle.lot_steps.specs.declared.places.Place.{Place}
 use Rattle.lot_steps.specs.declared.places.Place.TheVariants.{Idle, Mutex, RwLock, Once, Condvar, Semaphore}
@@ -47,7 +47,7 @@ use Rattle.run_base.specs.declared.driver.Stop.{Stop}
 use Rattle.run_base.specs.declared.driver.Stop.TheVariants.{Ended, Paused}
 
 abbrev pub answer_of : Act → Option Answer
-answer_of (act.TheVariants.End answer) = Some answer
+answer_of (act.End answer) = Some answer
 answer_of _ = None
 
 -- the goal of a call, and its lock
@@ -191,7 +191,7 @@ module _ (up : Type 0) where
   abbrev pub IsStopped : List Ownership → CallPurpose → Stop → ThreadState → Type 0
   IsStopped base aim (Ended answer) st = IsOver base aim answer st
   IsStopped base aim (Paused place state) st = Fits base place st
-      × (call_purpose place ≡ aim) × (act_of place ≡ act.TheVariants.Closure state)
+      × (call_purpose place ≡ aim) × (act_of place ≡ act.Closure state)
 
   abbrev pub ReachedBy : List Ownership → CallPurpose → Place → Option Answer → ThreadState → Type 0
   ReachedBy base aim p None st = Fits base p st × (call_purpose p ≡ aim)

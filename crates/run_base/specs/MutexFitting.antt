@@ -4,18 +4,18 @@ use Rattle.core_base.specs.Lines.{threads_of}
 use Rattle.core_base.specs.declared.keys.Keys.TheVariants.{One}
 use Rattle.core_base.specs.declared.wants.Waiter.{Waiter}
 use Rattle.spec_locks.specs.declared.outcomes.Answer.{Answer}
-use Rattle.spec_locks.specs.declared.outcomes.Answer as answers
+use Rattle.spec_locks.specs.declared.outcomes.Answer.TheVariants as answers
 use Rattle.steps_mutex.specs.MutexSteps.{is_timed, entered}
 use Rattle.steps_mutex.specs.declared.places.MutexPlace.{MutexPlace}
 use Rattle.steps_mutex.specs.declared.places.MutexPlace.TheVariants.{Lock, Unlock, UnlockFair, Bump, HandOff}
 use Rattle.steps_mutex.specs.declared.hand_off.HandOffAt.{HandOffAt}
-use Rattle.steps_mutex.specs.declared.hand_off.HandOffAt as hand_off
+use Rattle.steps_mutex.specs.declared.hand_off.HandOffAt.TheVariants as hand_off
 use Rattle.steps_mutex.specs.declared.lock.Entry.{Entry}
-use Rattle.steps_mutex.specs.declared.lock.Entry as entry
+use Rattle.steps_mutex.specs.declared.lock.Entry.TheVariants as entry
 use Rattle.steps_mutex.specs.declared.lock.LockAt.{LockAt}
-use Rattle.steps_mutex.specs.declared.lock.LockAt as lock
+use Rattle.steps_mutex.specs.declared.lock.LockAt.TheVariants as lock
 use Rattle.steps_mutex.specs.declared.unlock.UnlockAt.{UnlockAt}
-use Rattle.steps_mutex.specs.declared.unlock.UnlockAt as unlock
+use Rattle.steps_mutex.specs.declared.unlock.UnlockAt.TheVariants as unlock
 use Rattle.core_words.specs.Steps.{has, without}
 use Rattle.core_words.specs.Views.{owning}
 use Rattle.core_words.specs.declared.owners.Owner.TheVariants.{Exclusive}
@@ -34,13 +34,13 @@ pub data MutexPurpose : Type 0 where
 
 -- a bump enters again
 abbrev pub hands_for : Bool → MutexPurpose
-hands_for true = to_enter entry.TheVariants.Bump
+hands_for true = to_enter entry.Bump
 hands_for false = to_hand_over
 
 abbrev pub mutex_purpose_at : MutexPlace → MutexPurpose
 mutex_purpose_at (Lock e retries at) = to_enter e
 mutex_purpose_at UnlockFair = to_hand_over
-mutex_purpose_at Bump = to_enter entry.TheVariants.Bump
+mutex_purpose_at Bump = to_enter entry.Bump
 mutex_purpose_at (HandOff bumps at) = hands_for bumps
 mutex_purpose_at _ = to_release
 
@@ -50,7 +50,7 @@ mutex_ownership n = owning (mutex_at n) Exclusive
 
 -- the ownership of an entering thread beside the mutex: one that bumps had it as the call began
 abbrev pub beside : ℕ → Entry → List Ownership → List Ownership
-beside n entry.TheVariants.Bump base = without (mutex_ownership n) base
+beside n entry.Bump base = without (mutex_ownership n) base
 beside n _ base = base
 
 -- a thread that owns this, outside all sections
@@ -77,19 +77,19 @@ TookAt n last = HasDone (2 * n) (TakeFirst (2 * n)) last
 
 -- a release, after its subtraction
 abbrev pub FitsUnlock : ℕ → List Ownership → UnlockAt → ThreadState → Type 0
-FitsUnlock n base unlock.TheVariants.Subtract st = ⊥
-FitsUnlock n base unlock.TheVariants.Enter st = Outside base st
-FitsUnlock n base unlock.TheVariants.Take st = Within n base st
-FitsUnlock n base (unlock.TheVariants.Clear any) st = HasTook n any base st
-FitsUnlock n base (unlock.TheVariants.Leave any) st = HasTook n any base st
+FitsUnlock n base unlock.Subtract st = ⊥
+FitsUnlock n base unlock.Enter st = Outside base st
+FitsUnlock n base unlock.Take st = Within n base st
+FitsUnlock n base (unlock.Clear any) st = HasTook n any base st
+FitsUnlock n base (unlock.Leave any) st = HasTook n any base st
 
 -- an owner that saw a waiter, until its store, and after that
 abbrev pub FitsHandOff : ℕ → List Ownership → HandOffAt → ThreadState → Type 0
-FitsHandOff n base hand_off.TheVariants.Enter st = (has (mutex_ownership n) base ≡ true) × Outside base st
-FitsHandOff n base hand_off.TheVariants.Take st = (has (mutex_ownership n) base ≡ true) × Within n base st
-FitsHandOff n base (hand_off.TheVariants.Store any none_left) st =
+FitsHandOff n base hand_off.Enter st = (has (mutex_ownership n) base ≡ true) × Outside base st
+FitsHandOff n base hand_off.Take st = (has (mutex_ownership n) base ≡ true) × Within n base st
+FitsHandOff n base (hand_off.Store any none_left) st =
     (has (mutex_ownership n) base ≡ true) × HasTook n any base st
-FitsHandOff n base (hand_off.TheVariants.Leave any) st =
+FitsHandOff n base (hand_off.Leave any) st =
     (first : Option Waiter) × (any ≡ is_there first)
     × Took n first [] (without (mutex_ownership n) base) st
 
@@ -101,16 +101,16 @@ module _ (up : Type 0) where
 
   -- a thread that enters, beside what it owns
   abbrev pub FitsLock : ℕ → Entry → List Ownership → LockAt → ThreadState → Type 0
-  FitsLock n e owns lock.TheVariants.First st = Outside owns st
-  FitsLock n e owns lock.TheVariants.Load st = Outside owns st
-  FitsLock n e owns (lock.TheVariants.Decide seen) st = (seen < 4) × Outside owns st
-  FitsLock n e owns lock.TheVariants.Check st = Within n owns st
-  FitsLock n e owns (lock.TheVariants.Leave parked) st = Within n owns st
-  FitsLock n e owns lock.TheVariants.Asleep st = Outside owns st
-  FitsLock n e owns lock.TheVariants.Accept st = Outside (mutex_ownership n ∷ owns) st
-  FitsLock n e owns lock.TheVariants.Remove st = GaveUp e × Within n owns st
-  FitsLock n e owns lock.TheVariants.Clear st = GaveUp e × Within n owns st
-  FitsLock n e owns lock.TheVariants.GiveUp st = GaveUp e × Within n owns st
+  FitsLock n e owns lock.First st = Outside owns st
+  FitsLock n e owns lock.Load st = Outside owns st
+  FitsLock n e owns (lock.Decide seen) st = (seen < 4) × Outside owns st
+  FitsLock n e owns lock.Check st = Within n owns st
+  FitsLock n e owns (lock.Leave parked) st = Within n owns st
+  FitsLock n e owns lock.Asleep st = Outside owns st
+  FitsLock n e owns lock.Accept st = Outside (mutex_ownership n ∷ owns) st
+  FitsLock n e owns lock.Remove st = GaveUp e × Within n owns st
+  FitsLock n e owns lock.Clear st = GaveUp e × Within n owns st
+  FitsLock n e owns lock.GiveUp st = GaveUp e × Within n owns st
   FitsLock n e owns _ st = ⊥
 
   -- the ownership of a thread in a call of a mutex, which owned so much as it began to run. The first step of
@@ -125,9 +125,9 @@ module _ (up : Type 0) where
   abbrev pub IsMutexOver : ℕ → List Ownership → MutexPurpose → Answer → ThreadState → Type 0
   IsMutexOver n base (to_enter e) answer st =
       ((answer ≡ entered e) × Outside (mutex_ownership n ∷ beside n e base) st)
-      ⊎ ((answer ≡ answers.TheVariants.No) × GaveUp e × Outside (beside n e base) st
+      ⊎ ((answer ≡ answers.No) × GaveUp e × Outside (beside n e base) st
       × TookNobodyAt n st.last)
   IsMutexOver n base to_release answer st =
-      (answer ≡ answers.TheVariants.Ok) × Outside base st × TookAt n st.last
-  IsMutexOver n base to_hand_over answer st = (answer ≡ answers.TheVariants.Ok)
+      (answer ≡ answers.Ok) × Outside base st × TookAt n st.last
+  IsMutexOver n base to_hand_over answer st = (answer ≡ answers.Ok)
       × Outside (without (mutex_ownership n) base) st × TookAt n st.last

@@ -9,7 +9,7 @@ use Rattle.core_words.specs.declared.words.WordKind as kinds
 use Rattle.steps_base.specs.Acts.{holds}
 use Rattle.lot_steps.specs.Steps.{act_of, respins_from}
 use Rattle.steps_base.specs.declared.acts.Act.{Act}
-use Rattle.steps_base.specs.declared.acts.Act as act
+use Rattle.steps_base.specs.declared.acts.Act.TheVariants as act
 use Rattle.steps_base.specs.declared.acts.Check.{Check}
 use Rattle.steps_base.specs.declared.acts.Reply.{Reply}
 use Rattle.steps_base.specs.declared.acts.Reply.TheVariants.{Done, Value, Parked, Took, Picked, Requeued}
@@ -71,19 +71,19 @@ step at op seen = record { at = at; op = op; seen = seen } ∷ []
 
 -- the state with which the closure of a call runs
 abbrev pub closure_of : Act → Option OnceState
-closure_of (act.TheVariants.Closure state) = Some state
+closure_of (act.Closure state) = Some state
 closure_of _ = None
 
 -- acts that touch no word
 abbrev pub is_wordless : Act → Bool
-is_wordless (act.TheVariants.Enter keys) = true
-is_wordless (act.TheVariants.Stand key _) = true
-is_wordless (act.TheVariants.Take key whom) = true
-is_wordless (act.TheVariants.Requeue from to how) = true
-is_wordless (act.TheVariants.Remove key) = true
-is_wordless (act.TheVariants.Leave keys wakes) = true
-is_wordless act.TheVariants.Sleep = true
-is_wordless act.TheVariants.Accept = true
+is_wordless (act.Enter keys) = true
+is_wordless (act.Stand key _) = true
+is_wordless (act.Take key whom) = true
+is_wordless (act.Requeue from to how) = true
+is_wordless (act.Remove key) = true
+is_wordless (act.Leave keys wakes) = true
+is_wordless act.Sleep = true
+is_wordless act.Accept = true
 is_wordless _ = false
 
 -- replies that tell nothing of a word's value
@@ -111,17 +111,17 @@ MayReply p (Closed succeeded) = Unit {0}
 
 -- at a place these steps on words bring the reply, by where the word of each lock stands
 pub data Brings (at : ℕ → ℕ) : Place → List WordStep → Reply → Type 0 where
-  word : (p : Place) (lock : ℕ) (op : Op) (seen : ℕ) → act_of p ≡ act.TheVariants.Word lock op
+  word : (p : Place) (lock : ℕ) (op : Op) (seen : ℕ) → act_of p ≡ act.Word lock op
       → Brings at p (step (at lock) op seen) (Value seen)
-  hands : (p : Place) (lock : ℕ) (op : Op) (seen : ℕ) → act_of p ≡ act.TheVariants.HandOver lock op
+  hands : (p : Place) (lock : ℕ) (op : Op) (seen : ℕ) → act_of p ≡ act.HandOver lock op
       → Brings at p (step (at lock) op seen) (Value seen)
   parks : (p : Place) (lock key : ℕ) (check : Check) (want : Want) (seen : ℕ)
-      → act_of p ≡ act.TheVariants.Park lock key check want
+      → act_of p ≡ act.Park lock key check want
       → Brings at p (step (at lock) Load seen) (Parked (holds check seen))
   other : (p : Place) (reply : Reply) → is_wordless (act_of p) ≡ true → is_valueless reply ≡ true
       → MayReply p reply → Brings at p [] reply
 
--- these steps were added, and bring the reply
+-- steps that were added, and bring the reply
 abbrev pub Told : (ℕ → ℕ) → Place → Reply → List WordStep → List WordStep → Type 0
 Told at p reply before afterwards =
     (then : List WordStep) × (afterwards ≡ before ++ then) × Brings at p then reply

@@ -1,7 +1,7 @@
 -- The places of calls at which a thread has a place in a queue, and what its acts do to it.
 use Rattle.std.specs.Prelude.{ℕ, ◌≡◌, Bool, true, false, Option, Some, None, is_some, ◌||◌, ◌⊎◌}
 use Rattle.steps_base.specs.declared.acts.Act.{Act}
-use Rattle.steps_base.specs.declared.acts.Act as act
+use Rattle.steps_base.specs.declared.acts.Act.TheVariants as act
 use Rattle.steps_base.specs.declared.acts.Reply.{Reply}
 use Rattle.steps_base.specs.declared.acts.Reply.TheVariants.{Done, Parked, Removed, Woken}
 use Rattle.lot_steps.specs.Steps.{act_of, next_place, or_else, profile, profile_at_mutex, taker}
@@ -16,20 +16,20 @@ is_queued p = is_some (or_else (profile_at_mutex p).stands (profile p).stands) |
 
 -- a thread sleeps, and leaves its queue, by its place there
 abbrev pub needs_place : Act → Bool
-needs_place act.TheVariants.Sleep = true
-needs_place (act.TheVariants.Remove key) = true
+needs_place act.Sleep = true
+needs_place (act.Remove key) = true
 needs_place _ = false
 
 -- a thread that stands last has a place from then on
 abbrev pub gets_place : Act → Reply → Bool
-gets_place (act.TheVariants.Park _ _ _ _) (Parked parked) = parked
-gets_place (act.TheVariants.Stand _ _) Done = true
+gets_place (act.Park _ _ _ _) (Parked parked) = parked
+gets_place (act.Stand _ _) Done = true
 gets_place _ _ = false
 
 -- one that was woken, or has left its queue, has none
 abbrev pub spends_place : Act → Reply → Bool
-spends_place act.TheVariants.Sleep (Woken note) = true
-spends_place (act.TheVariants.Remove key) (Removed none_left) = true
+spends_place act.Sleep (Woken note) = true
+spends_place (act.Remove key) (Removed none_left) = true
 spends_place _ _ = false
 
 -- by whether it was queued before, and whether it is after: it stood last by the act, or was queued and

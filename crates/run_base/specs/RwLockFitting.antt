@@ -76,7 +76,7 @@ abbrev pub AwaitsNoReaders : ℕ → List Ownership → Type 0
 AwaitsNoReaders l owns = (has (owning (rwlock_at l) owners.Pending) owns ≡ false)
     × (has (owning (rwlock_at l) owners.Upgrading) owns ≡ false)
 
--- these are the same; a thread that comes to a lock for whose last readers it waits already may find none
+-- both are the same; a thread that comes to a lock for whose last readers it waits already may find none
 -- left
 abbrev pub IsBeside : ℕ → List Ownership → List Ownership → Type 0
 IsBeside l base owns = AwaitsNoReaders l base → owns ≡ base
@@ -104,7 +104,7 @@ did_wake l a q m = did_take (key_of l m) (whom a (start_of q) m)
 
 -- in the section of a line, or in none; where it carries, it has taken some of the line
 abbrev pub IsWithin : ℕ → Admission → RwLockPurpose → Option Line → Bool → Option SectionView → Type 0
-IsWithin l a q None carries inside = inside ≡ None
+IsWithin l a q None has_taken inside = inside ≡ None
 IsWithin l a q (Some m) false inside = inside ≡ entered_now (One (key_of l m))
 IsWithin l a q (Some m) true inside = (waiters : List Waiter)
     × (inside ≡ Some (having_taken (One (key_of l m)) (did_wake l a q m) waiters
@@ -309,7 +309,7 @@ module _ (up : Type 0) where
     pub begun : HasGivenWay p.at
     pub seen : SeenInRange p.at
     pub owns : OwnsBeside l (rwlock_role p).claims base st.owns
-    pub within : IsWithin l a p.purpose (rwlock_role p).inside (rwlock_role p).carries st.inside
+    pub within : IsWithin l a p.purpose (rwlock_role p).inside (rwlock_role p).has_taken st.inside
     pub stood : HasStood l p.at st.steps
     pub late : (rwlock_profile a p).late ≡ true → up
 

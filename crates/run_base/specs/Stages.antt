@@ -25,21 +25,21 @@ use Rattle.core_words.specs.declared.views.WordStep.{WordStep}
 use Rattle.core_words.specs.declared.words.WordKind.{WordKind}
 use Rattle.steps_base.specs.Acts.{holds, takes_effect}
 use Rattle.steps_base.specs.declared.acts.Act.{Act}
-use Rattle.steps_base.specs.declared.acts.Act as act
+use Rattle.steps_base.specs.declared.acts.Act.TheVariants as act
 use Rattle.steps_base.specs.declared.acts.Reply.{Reply}
 use Rattle.steps_base.specs.declared.acts.Reply.TheVariants.{Done, Value, Parked, Took, Picked, Requeued}
 use Rattle.steps_base.specs.declared.acts.Reply.TheVariants.{Removed, MovedTo, Late, Woken}
 use Rattle.steps_base.specs.declared.acts.Wakes.{Wakes}
-use Rattle.steps_base.specs.declared.acts.Wakes as wakes
+use Rattle.steps_base.specs.declared.acts.Wakes.TheVariants as wakes
 use Rattle.steps_base.specs.declared.acts.TakeWhich.{TakeWhich}
-use Rattle.steps_base.specs.declared.acts.TakeWhich as whom
+use Rattle.steps_base.specs.declared.acts.TakeWhich.TheVariants as whom
 use Rattle.parking_lot_core.specs.Keys.{AreKeys, IsKeyOf, first_key}
 use Rattle.parking_lot_core.specs.Sections.{waiting_in, taken_in, wants_in, rightless_in, moved_in, MayNote}
 use Rattle.parking_lot_core.specs.Tokens.{view_of, last_of}
 use Rattle.parking_lot_core.specs.declared.lot.ParkingLot.{ParkingLot}
 use Rattle.parking_lot_core.specs.declared.sections.Section.{Section}
 use Rattle.parking_lot_core.specs.declared.tokens.Did.{Did}
-use Rattle.parking_lot_core.specs.declared.tokens.Did as did
+use Rattle.parking_lot_core.specs.declared.tokens.Did.TheVariants as did
 use Rattle.parking_lot_core.specs.declared.tokens.Did.TheVariants.{Nothing, TakeFirst}
 use Rattle.parking_lot_core.specs.declared.tokens.SectionRecord.{SectionRecord}
 use Rattle.parking_lot_core.specs.declared.tokens.Token.{Token}
@@ -133,7 +133,7 @@ having_taken keys did waiters rightless =
       moved = 0;
     }
 
--- these were taken, and have no right yet
+-- waiters that were taken, and have no right yet
 abbrev pub took_as : Did → List Waiter → Option SectionView → Option SectionView
 took_as did waiters None = None
 took_as did waiters (Some inside) = Some (having_taken inside.keys did waiters (threads_of waiters))
@@ -153,8 +153,8 @@ is_there None = false
 is_there (Some waiter) = true
 
 abbrev pub note_of : Wakes → Note
-note_of wakes.TheVariants.Nobody = Normal
-note_of (wakes.TheVariants.All note) = note
+note_of wakes.Nobody = Normal
+note_of (wakes.All note) = note
 
 -- inside a section of this key
 abbrev pub HasKey : ℕ → Option SectionView → Type 0
@@ -190,22 +190,22 @@ HandsEach kind at op owns wants = (seen : ℕ) → CodesWith kind at seen owns
 
 -- the needs of an act, of the stage, by the kind of each lock's word and where it stands
 abbrev pub ActNeeds : (ℕ → WordKind) → (ℕ → ℕ) → ThreadState → Act → Type 0
-ActNeeds kinds at st (act.TheVariants.Word lock op) = MayStep (kinds lock) (at lock) op st.owns
-ActNeeds kinds at st (act.TheVariants.HandOver lock op) =
+ActNeeds kinds at st (act.Word lock op) = MayStep (kinds lock) (at lock) op st.owns
+ActNeeds kinds at st (act.HandOver lock op) =
     MayStep (kinds lock) (at lock) op st.owns × IsUngiven st.inside
     × HandsEach (kinds lock) (at lock) op st.owns (wanted_in st.inside)
-ActNeeds kinds at st (act.TheVariants.Enter keys) = AreKeys keys × (st.inside ≡ None)
-ActNeeds kinds at st (act.TheVariants.Park lock key check _) =
+ActNeeds kinds at st (act.Enter keys) = AreKeys keys × (st.inside ≡ None)
+ActNeeds kinds at st (act.Park lock key check _) =
     MayStep (kinds lock) (at lock) Load st.owns × HasKey key st.inside
-ActNeeds kinds at st (act.TheVariants.Stand key _) = HasKey key st.inside
-ActNeeds kinds at st (act.TheVariants.Take key whom) = HasKey key st.inside × IsFresh st.inside
-ActNeeds kinds at st (act.TheVariants.Requeue from to how) =
+ActNeeds kinds at st (act.Stand key _) = HasKey key st.inside
+ActNeeds kinds at st (act.Take key whom) = HasKey key st.inside × IsFresh st.inside
+ActNeeds kinds at st (act.Requeue from to how) =
     HasKey from st.inside × HasKey to st.inside × (from ≢ to) × IsFresh st.inside
-ActNeeds kinds at st (act.TheVariants.Remove key) = HasKey key st.inside
-ActNeeds kinds at st (act.TheVariants.Leave keys wakes) = MayLeave (note_of wakes) st.inside
-ActNeeds kinds at st act.TheVariants.Sleep = st.inside ≡ None
-ActNeeds kinds at st act.TheVariants.Accept = Unit {0}
-ActNeeds kinds at st (act.TheVariants.Closure state) = st.inside ≡ None
+ActNeeds kinds at st (act.Remove key) = HasKey key st.inside
+ActNeeds kinds at st (act.Leave keys wakes) = MayLeave (note_of wakes) st.inside
+ActNeeds kinds at st act.Sleep = st.inside ≡ None
+ActNeeds kinds at st act.Accept = Unit {0}
+ActNeeds kinds at st (act.Closure state) = st.inside ≡ None
 ActNeeds kinds at st _ = ⊥
 
 -- after a step on a word
@@ -248,16 +248,16 @@ IsLeft (Some inside) last =
 -- the waiters that a take took, by its reply; among those that were picked one at most wants more than to
 -- share, and a list holds them
 abbrev pub TookBy : ℕ → TakeWhich → Reply → Option SectionView → Option SectionView → Type 0
-TookBy key whom.TheVariants.First (Took any none_left) old new =
+TookBy key whom.First (Took any none_left) old new =
     (first : Option Waiter) × (any ≡ is_there first)
     × (new ≡ took_as (TakeFirst key) (listed first) old)
-TookBy key whom.TheVariants.All (Took any none_left) old new =
+TookBy key whom.All (Took any none_left) old new =
     (waiters : List Waiter) × (any ≡ not (length waiters == 0))
-    × (new ≡ took_as (did.TheVariants.TakeAll key) waiters old)
-TookBy key (whom.TheVariants.Picked start recursive) (Picked sharers successor none_left) old new =
+    × (new ≡ took_as (did.TakeAll key) waiters old)
+TookBy key (whom.Picked start recursive) (Picked sharers successor none_left) old new =
     (waiters : List Waiter) × (sharers ≡ sharers_in (wants_of waiters))
     × (successor ≡ successor_in (wants_of waiters))
-    × (new ≡ took_as (did.TheVariants.TakePicked key start recursive) waiters old)
+    × (new ≡ took_as (did.TakePicked key start recursive) waiters old)
     × (more_in (wants_of waiters) ≤ 1) × (length waiters < 2 ^ 60)
 TookBy key _ _ old new = ⊥
 
@@ -293,38 +293,38 @@ Stepped kind at op seen st new = CodesWith kind at seen st.owns × (new ≡ step
 -- the stage after an act, by its reply
 abbrev pub Became : Type 0 → (ℕ → WordKind) → (ℕ → ℕ) → Sleeper → ThreadState → Act → Reply → ThreadState
     → Type 0
-Became up kinds at sleeper st (act.TheVariants.Word lock op) (Value seen) new =
+Became up kinds at sleeper st (act.Word lock op) (Value seen) new =
     Stepped (kinds lock) (at lock) op seen st new
-Became up kinds at sleeper st (act.TheVariants.HandOver lock op) (Value seen) new =
+Became up kinds at sleeper st (act.HandOver lock op) (Value seen) new =
     CodesWith (kinds lock) (at lock) seen st.owns × (new ≡ stage_handed (kinds lock) (at lock) op seen st)
-Became up kinds at sleeper st (act.TheVariants.Enter keys) Done new =
+Became up kinds at sleeper st (act.Enter keys) Done new =
     new ≡ stage st.owns (entered_now keys) st.last st.steps
-Became up kinds at sleeper st (act.TheVariants.Park lock key check _) (Parked parked) new =
+Became up kinds at sleeper st (act.Park lock key check _) (Parked parked) new =
     (seen : ℕ) × (parked ≡ holds check seen) × Stepped (kinds lock) (at lock) Load seen st new
-Became up kinds at sleeper st (act.TheVariants.Stand key _) Done new = new ≡ st
-Became up kinds at sleeper st (act.TheVariants.Take key whom) reply new =
+Became up kinds at sleeper st (act.Stand key _) Done new = new ≡ st
+Became up kinds at sleeper st (act.Take key whom) reply new =
     TookBy key whom reply st.inside new.inside × (new.owns ≡ st.owns) × (new.last ≡ st.last)
     × (new.steps ≡ st.steps)
-Became up kinds at sleeper st (act.TheVariants.Requeue from to how)
+Became up kinds at sleeper st (act.Requeue from to how)
     (Requeued number none_left) new =
     (first : Option Waiter) × (moved : ℕ) × (number ≡ length (listed first) + moved)
     × (new ≡ stage st.owns
-    (with_moved moved (took_as (did.TheVariants.Requeue from to how) (listed first) st.inside)) st.last
+    (with_moved moved (took_as (did.Requeue from to how) (listed first) st.inside)) st.last
     st.steps)
-Became up kinds at sleeper st (act.TheVariants.Remove key) (Removed none_left) new = new ≡ st
-Became up kinds at sleeper st (act.TheVariants.Leave keys wakes) Done new =
+Became up kinds at sleeper st (act.Remove key) (Removed none_left) new = new ≡ st
+Became up kinds at sleeper st (act.Leave keys wakes) Done new =
     (new.owns ≡ st.owns) × (new.inside ≡ None) × IsLeft st.inside new.last
     × (new.steps ≡ st.steps)
-Became up kinds at sleeper st act.TheVariants.Sleep reply new =
+Became up kinds at sleeper st act.Sleep reply new =
     Awoke up (kinds sleeper.lock) (at sleeper.lock) sleeper st reply new
-Became up kinds at sleeper st act.TheVariants.Accept Done new = new ≡ st
+Became up kinds at sleeper st act.Accept Done new = new ≡ st
 Became up kinds at sleeper st _ _ new = ⊥
 
 -- the steps on words that an act adds
 abbrev pub Adds : (ℕ → ℕ) → Act → Reply → List WordStep → List WordStep → Type 0
-Adds at (act.TheVariants.Word lock op) (Value seen) old new = new ≡ old ++ step (at lock) op seen
-Adds at (act.TheVariants.HandOver lock op) (Value seen) old new =
+Adds at (act.Word lock op) (Value seen) old new = new ≡ old ++ step (at lock) op seen
+Adds at (act.HandOver lock op) (Value seen) old new =
     new ≡ old ++ step (at lock) op seen
-Adds at (act.TheVariants.Park lock key check _) (Parked parked) old new =
+Adds at (act.Park lock key check _) (Parked parked) old new =
     (seen : ℕ) × (parked ≡ holds check seen) × (new ≡ old ++ step (at lock) Load seen)
 Adds at _ _ old new = new ≡ old

@@ -2,12 +2,12 @@
 use Rattle.std.specs.Prelude.{ℕ, ◌≡◌, ◌==◌, ◌+◌, ◌++◌, ◌∷◌, [], not, Bool, List, Option, Some, length}
 use Rattle.std.specs.Prelude.{MatchBool}
 use Rattle.steps_base.specs.declared.acts.Act.{Act}
-use Rattle.steps_base.specs.declared.acts.Act as act
+use Rattle.steps_base.specs.declared.acts.Act.TheVariants as act
 use Rattle.steps_base.specs.declared.acts.Reply.{Reply}
 use Rattle.steps_base.specs.declared.acts.Reply.TheVariants.{Done, Late, Parked, Took, Picked, Requeued}
 use Rattle.steps_base.specs.declared.acts.Reply.TheVariants.{Removed}
 use Rattle.steps_base.specs.declared.acts.TakeWhich.{TakeWhich}
-use Rattle.steps_base.specs.declared.acts.TakeWhich as whom
+use Rattle.steps_base.specs.declared.acts.TakeWhich.TheVariants as whom
 use Rattle.core_base.specs.Lines.{queued_under, line, lines, waiter, without, without_first, without_key}
 use Rattle.core_base.specs.Picks.{lock_picked, without_lock_picked}
 use Rattle.core_base.specs.Requeues.{moved_by, requeued}
@@ -62,7 +62,7 @@ line_in key section = line key (waiting_of section)
 abbrev pub is_empty_at : ℕ → Option Section → Bool
 is_empty_at key section = length (line_in key section) == 0
 
--- these wait, line by line
+-- who waits, line by line
 abbrev pub AreQueued : List Waiter → Option Section → Type 0
 AreQueued waiters section = lines (waiting_of section) ≡ lines waiters
 
@@ -76,20 +76,20 @@ abbrev pub MayTakeAt : ParkingLot → ℕ → Option Section → Type 0
 MayTakeAt lot key section =
     IsSectionOf lot section × HasKey key (section_view section) × IsFresh (section_view section)
 
--- these were taken there
+-- waiters that were taken there
 abbrev pub WereTaken : ParkingLot → Did → List Waiter → Option Section → Option Section → Type 0
 WereTaken lot did waiters old new =
     IsSectionOf lot new × (section_view new ≡ took_as did waiters (section_view old))
 
 -- a take tells of the line under its key, and of what it leaves of it
 abbrev pub TellsTake : ℕ → TakeWhich → Reply → Option Section → Option Section → Type 0
-TellsTake key whom.TheVariants.First (Took any none_left) old new =
+TellsTake key whom.First (Took any none_left) old new =
     (any ≡ is_there (front_waiter (line_in key old)))
     × AreQueued (without_first key (waiting_of old)) new × (none_left ≡ is_empty_at key new)
-TellsTake key whom.TheVariants.All (Took any none_left) old new =
+TellsTake key whom.All (Took any none_left) old new =
     (any ≡ not (is_empty_at key old))
     × AreQueued (without_key key (waiting_of old)) new × (none_left ≡ is_empty_at key new)
-TellsTake key (whom.TheVariants.Picked start recursive)
+TellsTake key (whom.Picked start recursive)
     (Picked sharers successor none_left) old new =
     (sharers ≡ sharers_in (wants_of (lock_picked start recursive (line_in key old))))
     × (successor ≡ successor_in (wants_of (lock_picked start recursive (line_in key old))))
@@ -112,13 +112,13 @@ StandsWhereLate thread section = (key : ℕ) × (section_view section ≡ entere
 
 -- an act of this thread tells the truth of the queues, and leaves them as it says
 abbrev pub TellsQueues : Act → Reply → ℕ → Option Section → Option Section → Type 0
-TellsQueues (act.TheVariants.Park lock key check want) (Parked parked) me old new =
+TellsQueues (act.Park lock key check want) (Parked parked) me old new =
     MatchBool parked (StandsLast key me want old new) (waiting_of new ≡ waiting_of old)
-TellsQueues (act.TheVariants.Stand key want) Done me old new = StandsLast key me want old new
-TellsQueues (act.TheVariants.Take key whom) reply me old new = TellsTake key whom reply old new
-TellsQueues (act.TheVariants.Requeue from to how) (Requeued number none_left) me old new =
+TellsQueues (act.Stand key want) Done me old new = StandsLast key me want old new
+TellsQueues (act.Take key whom) reply me old new = TellsTake key whom reply old new
+TellsQueues (act.Requeue from to how) (Requeued number none_left) me old new =
     TellsRequeue from to how number none_left old new
-TellsQueues (act.TheVariants.Remove key) (Removed none_left) me old new =
+TellsQueues (act.Remove key) (Removed none_left) me old new =
     AreQueued (without me (waiting_of old)) new × (none_left ≡ is_empty_at key new)
-TellsQueues act.TheVariants.Sleep Late me old new = StandsWhereLate me new
+TellsQueues act.Sleep Late me old new = StandsWhereLate me new
 TellsQueues a reply me old new = Unit {0}

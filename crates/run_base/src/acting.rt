@@ -88,7 +88,7 @@ pub(crate) fn park<'a>(
 {
     match section {
         Some(inside) => {
-            let parked = check.holds(lot.word(token, word, Op::Load));
+            let parked = check.holds(lot.step_word(token, word, Op::Load));
             if parked {
                 *queue = Some(inside.append(key, token.number(), want));
             }
@@ -149,7 +149,7 @@ pub(crate) fn hand_over<R: Wait>(
 {
     match section {
         Some(inside) => {
-            let seen = lot.word(token, word, op);
+            let seen = lot.step_word(token, word, op);
             if takes_effect(op, seen) {
                 inside.give_each(rt, token, word, op.apply(seen));
             }
@@ -422,7 +422,7 @@ pub(crate) fn perform<'a, R: Wait, C: Clock>(
     ensures told { TellsIn token.old.number act result token.old section.old token.new section.new }
 {
     match act {
-        Act::Word { lock, op } => Reply::Value(lot.word(token, words.of(lock), op)),
+        Act::Word { lock, op } => Reply::Value(lot.step_word(token, words.of(lock), op)),
         Act::HandOver { lock, op } => {
             Reply::Value(hand_over(rt, lot, token, words.of(lock), section, op))
         }

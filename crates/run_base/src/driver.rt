@@ -100,11 +100,11 @@ pub fn step(lot: &ParkingLot, token: &mut Token, word: Word, op: Op) -> u64
         ≡ after_step Mutex (mutex_at word.number) op result (view_of token.old) }
     ensures coded { CodesWith Mutex (mutex_at word.number) result (view_of token.old).owns }
 {
-    lot.word(token, word, op)
+    lot.step_word(token, word, op)
 }
 
 /// Takes the first step of a call, which a director is told by this name: else it does what
-/// `ParkingLot::word` does.
+/// `ParkingLot::step_word` does.
 #[inline(always)]
 pub fn first_step(
     lot: &ParkingLot,
@@ -123,7 +123,7 @@ pub fn first_step(
         (view_of token.old).owns }
 {
     lot.begins(token, deed, word);
-    lot.word_again(token, word, op)
+    lot.step_word_unrecorded(token, word, op)
 }
 
 /// Takes the first step of a call, for which a directed thread waits asleep: else it does what
@@ -146,10 +146,11 @@ pub fn first_step_with<R: Wait>(
     ensures coded { CodesWith word.kind (word_index word.number word.kind) result
         (view_of token.old).owns }
 {
-    if !lot.may_begin(token) {
-        lot.turn_to_begin(rt, token, deed, &word);
+    if lot.may_begin(token) {
+        lot.step_word_unrecorded(token, word, op)
+    } else {
+        first_step_in_turn(rt, lot, token, deed, word, op)
     }
-    lot.word_again(token, word, op)
 }
 
 /// Takes the first step of a call once the thread has its turn for it, where a director says when it
@@ -166,7 +167,6 @@ pub fn first_step_in_turn<R: Wait>(
 ) -> u64
     requires own { IsTokenOf lot.now token.old × IsWordOf lot.now.words word }
     requires may { MayStep word.kind (word_index word.number word.kind) op (view_of token.old).owns }
-    requires forgotten { last_of token.old ≡ None }
     ensures own { IsSameThread lot.now token.old token.new × (last_of token.new ≡ None) }
     ensures untold { told_of token.new ≡ told_of token.old }
     ensures stepped { view_of token.new
@@ -175,7 +175,7 @@ pub fn first_step_in_turn<R: Wait>(
         (view_of token.old).owns }
 {
     lot.turn_to_begin(rt, token, deed, &word);
-    lot.word_again(token, word, op)
+    lot.step_word_unrecorded(token, word, op)
 }
 
 /// Takes the first step of a call on the word of a mutex, by its name.

@@ -39,7 +39,7 @@ pub fn turn_word<C: Clock>(
     ensures { HasActed (TimeIsUp C.tells _limit.entry) lot.now words (acts.Word lock op) (Value result)
         token.old _section.now token.new _section.now }
 {
-    lot.word(token, words.of(lock), op)
+    lot.step_word(token, words.of(lock), op)
 }
 
 /// Takes a turn with one operation on the word of a lock, by which the lock goes to those that were

@@ -3,7 +3,7 @@ use Rattle.std.proofs.Common.{ℕ, ◌≡◌, ◌≢◌, ◌==◌, Bool, true, f
 use Rattle.std.proofs.Common.{refl, ap, ◌∙◌, ne_eqb, eq-eqb}
 use Rattle.spec_locks.specs.declared.outcomes.OnceState.{OnceState}
 use Rattle.spec_locks.specs.declared.calls.OnceCall.TheVariants.{CallOnce, WaitTimed}
-use Rattle.steps_base.specs.declared.acts.Act as act
+use Rattle.steps_base.specs.declared.acts.Act.TheVariants as act
 use Rattle.steps_condvar.specs.declared.places.CondvarPlace.TheVariants.{Wait, Look, Notify}
 use Rattle.steps_condvar.specs.declared.notify.NotifyAt.{NotifyAt}
 use Rattle.steps_condvar.specs.declared.notify.NotifyAt.TheVariants as notify
@@ -38,7 +38,7 @@ use Rattle.run_locks.specs.CondvarCalls.{at_condvar}
 -- no wait runs a closure
 wait_no_closure : (c m : ℕ) (timed : Bool) (state : OnceState) (up : Type 0) (base : List Ownership)
     (w : WaitAt) (st : ThreadState) → FitsWait up c m timed base w st → wait_act c m w
-    ≡ act.TheVariants.Closure
+    ≡ act.Closure
     state → ⊥
 wait_no_closure c m timed state up base (wait.Release stands.Listed (Unlock unlock.Subtract)) st f is = cc
 wait_no_closure c m timed state up base (wait.Release stands.Listed (Unlock unlock.Enter)) st f is = cc
@@ -79,7 +79,7 @@ wait_never_pauses up base c m timed (Condvar l (Notify all m2 at)) state st s = 
 
 -- No notification runs a closure.
 notify_no_closure : (c m : ℕ) (state : OnceState) (all : Bool) (n : NotifyAt) → notify_act all c m n
-    ≡ act.TheVariants.Closure state → ⊥
+    ≡ act.Closure state → ⊥
 notify_no_closure c m state true (notify.Move locked) is = cc
 notify_no_closure c m state false (notify.Move true) is = cc
 notify_no_closure c m state false (notify.Move false) is = cc

@@ -68,7 +68,7 @@ module _ (word : Word) (is : word.kind ≡ kinds.RwLock) where
       (sym is) (subst (λ (o : Op). MayStep kinds.RwLock (rwlock_at word.number) o owns) (sym e)
       (may_begin word.number c base owns b))
 
-  -- that step, as the stages have it
+  -- the step, as the stages have it
   pub started : (c : RwLockPurpose) (op : Op) (seen : ℕ) (old new : Token) → op ≡ first_op c
       → view_of new ≡ after_step word.kind (word_index word.number word.kind) op seen (view_of old)
       → last_of new ≡ None → CodesWith word.kind (word_index word.number word.kind) seen (view_of old).owns

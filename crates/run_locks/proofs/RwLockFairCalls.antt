@@ -216,10 +216,10 @@ module _ (word : Word) (is : word.kind ≡ kinds.RwLock) (op : Op) (seen : ℕ) 
     saw_step = ap (λ (v : View). v.steps) stepped
         ∙ ap (λ (k : WordKind). (view_of old).steps ++ step (word_index word.number k) op seen) is
 
-    pub has_taken : last_of new ≡ None → CodesWith word.kind (word_index word.number word.kind) seen
+    pub has_taken_it : last_of new ≡ None → CodesWith word.kind (word_index word.number word.kind) seen
         (view_of old).owns → Stepped kinds.RwLock (rwlock_at word.number) op seen (stage_of old None)
         (stage_of new None)
-    has_taken last code = subst (λ (k : WordKind). Stepped k (word_index word.number k) op seen
+    has_taken_it last code = subst (λ (k : WordKind). Stepped k (word_index word.number k) op seen
         (stage_of old None) (stage_of new None)) is (by_stage word op seen old None new stepped last code)
 
 -- where a bump went on, and where its look ended it

@@ -589,7 +589,7 @@ module _ (a : Admission) (x : Access) (how : Patience) (Is : RwLockCallPlace →
     course_keeps : (at : ℕ → ℕ) (me : ℕ) (p r : Place) (x : List PathItem) → Course at me p x r → IsIn p
         → IsIn r
     course_keeps at me p _ _ (courses.rests _) w = w
-    course_keeps at me p _ _ (courses.goes _ r x y told course brings) w =
+    course_keeps at me p _ _ (courses.goes _ r x y told course will_bring) w =
         (place_keeps r told (course_keeps at me p r x course w)).0
     course_keeps at me p s x (courses.sees _ r _ _ course is) w =
         looks_keep r s is (course_keeps at me p r x course w)
@@ -607,7 +607,7 @@ module _ (a : Admission) (x : Access) (how : Patience) (Is : RwLockCallPlace →
         let end = w.2 in
         let told = ended_by (at_rwlock l) me start end.last end.before end.reply end.course begins end.ends in
         let value = told_value a enters end.reply told in
-        let by = value_seen l end.last end.brings.0 end.reply end.brings.3 value.0 value.1 in
+        let by = value_seen l end.last end.will_bring.0 end.reply end.will_bring.3 value.0 value.1 in
         let is = found a how value.0 x value.2 in (
           steps_in end.before,
           by.0,

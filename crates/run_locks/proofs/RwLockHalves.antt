@@ -26,7 +26,7 @@ use Rattle.core_words.specs.declared.words.WordKind.TheVariants as kinds
 use Rattle.parking_lot_core.specs.Tokens.{told_of, view_of}
 use Rattle.parking_lot_core.specs.declared.tokens.Token.{Token}
 use Rattle.run_locks.specs.Halves.{HasBegunRwLock, HasEndedRwLock, SteppedAndFound}
-use Rattle.run_locks.specs.declared.rwlock_calls.Rest.TheVariants.{GoesOn, Missed}
+use Rattle.run_locks.specs.declared.rwlock_calls.SlowPart.TheVariants.{GoesOn, Missed}
 use Rattle.run_locks.proofs.RwLockCalling.{ended_on, path_ended, rest_fits, rest_over, rest_path}
 use Rattle.run_locks.proofs.RwLockCalling.{rest_record, saw, started, wakes_at_once}
 use Rattle.run_locks.proofs.RwLockCourses.{takes_at, waits_at}

@@ -15,8 +15,8 @@ use Rattle.core_words.specs.declared.words.Word.{Word}
 use Rattle.parking_lot_core.specs.Tokens.{view_of, last_of, told_of}
 use Rattle.parking_lot_core.specs.declared.tokens.Token.{Token}
 use Rattle.run_locks.specs.Courses.{course_of}
-use Rattle.run_locks.specs.declared.rwlock_calls.Rest.{Rest}
-use Rattle.run_locks.specs.declared.rwlock_calls.Rest.TheVariants.{GoesOn, Missed, NotBegun}
+use Rattle.run_locks.specs.declared.rwlock_calls.SlowPart.{SlowPart}
+use Rattle.run_locks.specs.declared.rwlock_calls.SlowPart.TheVariants.{GoesOn, Missed, NotBegun}
 use Rattle.run_locks.specs.declared.rwlock_courses.Course.TheVariants as courses
 
 -- the thread took one step on the word, which found this, and no queue told it anything
@@ -30,7 +30,7 @@ SteppedAndFound word op found old new = (new.number ≡ old.number)
 -- the thread took what the fast half of a call takes, which is not over by it: nothing where it waits for
 -- its turn; its first step, and where that saw that it may take its right, an exchange by what was seen,
 -- which found another value
-abbrev pub HasBegunRwLock : Word → Admission → RwLockPurpose → Rest → Token → Token → Type 0
+abbrev pub HasBegunRwLock : Word → Admission → RwLockPurpose → SlowPart → Token → Token → Type 0
 HasBegunRwLock word a q NotBegun old new = (new.number ≡ old.number) × (view_of new ≡ view_of old)
     × (last_of new ≡ None) × (told_of new ≡ told_of old)
 HasBegunRwLock word a q (GoesOn seen) old new =

@@ -55,7 +55,7 @@ impl Pair {
 // Does the rest of a call, from a place off its straight course.
 #[cold]
 #[inline(never)]
-pub(crate) fn rest<'a, R: Wait, C: Clock>(
+pub(crate) fn finish_by_driver<'a, R: Wait, C: Clock>(
     rt: &R,
     lot: &'a ParkingLot,
     token: &mut Token,

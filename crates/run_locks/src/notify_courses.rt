@@ -5,7 +5,7 @@ ghost use Rattle.steps_condvar.specs.declared.notify.NotifyAt.TheVariants as not
 ghost use Rattle.run_base.specs.Turns.{HasEnded, IsAtPlace};
 ghost use Rattle.run_locks.specs.CondvarCourses.{notify_at};
 
-use crate::condvar_courses::{Pair, rest};
+use crate::condvar_courses::{Pair, finish_by_driver};
 use core_base::main_key;
 use lot_steps::{Reply, Wakes};
 use parking_lot_core::{Keys, Note, Op, ParkingLot, Requeue, Section, Token};
@@ -193,7 +193,7 @@ fn mark_and_move<'a, R: Wait>(
     }
     let place = pair.notifies(all, NotifyAt::Set(seen));
     let next = place.next_place(Reply::Value(found));
-    rest(rt, lot, token, words, NO_LIMIT, section, None, next)
+    finish_by_driver(rt, lot, token, words, NO_LIMIT, section, None, next)
 }
 
 /// A notification that has seen a mutex, from there to its answer.

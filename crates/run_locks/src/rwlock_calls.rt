@@ -16,7 +16,7 @@ ghost use Rattle.core_words.specs.declared.words.WordKind.TheVariants.{RwLock};
 ghost use Rattle.parking_lot_core.specs.Tokens.{IsTokenOf, IsSameThread};
 ghost use Rattle.parking_lot_core.specs.declared.tokens.Token.{Token};
 ghost use Rattle.run_locks.specs.Halves.{HasBegunRwLock, HasEndedRwLock};
-ghost use Rattle.run_locks.specs.declared.rwlock_calls.Rest.TheVariants.{GoesOn, Missed, NotBegun};
+ghost use Rattle.run_locks.specs.declared.rwlock_calls.SlowPart.TheVariants.{GoesOn, Missed, NotBegun};
 ghost use Rattle.run_base.specs.Fitting.{AreWordsFor, Fits, IsOver, Reached, call_purpose, of_rwlock};
 ghost use Rattle.run_base.specs.Courses.{Courses, CoursesAfterReply, trail_of};
 ghost use Rattle.run_base.specs.Paths.{at_rwlock};
@@ -45,7 +45,7 @@ use steps_rwlock_fair::RwLockCallPlace;
 
 /// The rest of a call, which the fast half leaves to the slow one.
 #[derive(Clone, Copy)]
-pub enum Rest {
+pub enum SlowPart {
     /// No step is taken: the thread waits for its turn.
     NotBegun,
     /// The first step saw this, and the call goes on.
@@ -433,7 +433,7 @@ pub fn call_fast<C: Clock>(
     settings: &Settings,
     _limit: &Option<(&C, u64)>,
     purpose: RwLockPurpose,
-) -> Result<Answer, Rest>
+) -> Result<Answer, SlowPart>
     requires own { MeetsAt lot.now token.old word.now settings.now.admission }
     requires right { (base : List Ownership)
         × BeginsWith word.now.number purpose base (owns_of token.old) }
@@ -444,19 +444,19 @@ pub fn call_fast<C: Clock>(
         (λ rest. HasBegunRwLock word.now settings.now.admission purpose rest token.old token.new) }
 {
     if !lot.may_begin(token) {
-        return Err(Rest::NotBegun);
+        return Err(SlowPart::NotBegun);
     }
-    let seen = lot.word_again(token, *word, opening(purpose));
+    let seen = lot.step_word_unrecorded(token, *word, opening(purpose));
     match course_of(*settings, purpose, seen) {
         Course::Ends(answer) => Ok(answer),
-        Course::GoesOn => Err(Rest::GoesOn(seen)),
+        Course::GoesOn => Err(SlowPart::GoesOn(seen)),
         Course::Takes => {
             let to = purpose.taken(seen);
-            let found = lot.word_again(token, *word, Op::Exchange { from: seen, to });
+            let found = lot.step_word_unrecorded(token, *word, Op::Exchange { from: seen, to });
             if found == seen {
                 return Ok(answer_with(purpose));
             }
-            Err(Rest::Missed { seen, found })
+            Err(SlowPart::Missed { seen, found })
         }
     }
 }
@@ -487,7 +487,7 @@ pub fn call<R: Wait, C: Clock>(
 {
     match call_fast(lot, token, word, settings, limit, purpose) {
         Ok(answer) => answer,
-        Err(Rest::GoesOn(seen)) => {
+        Err(SlowPart::GoesOn(seen)) => {
             call_slow(
                 rt,
                 lot,
@@ -499,7 +499,7 @@ pub fn call<R: Wait, C: Clock>(
                 seen,
             )
         }
-        Err(Rest::Missed { seen, found }) => {
+        Err(SlowPart::Missed { seen, found }) => {
             missed(
                 rt,
                 lot,
@@ -512,6 +512,6 @@ pub fn call<R: Wait, C: Clock>(
                 found,
             )
         }
-        Err(Rest::NotBegun) => call_in_turn(rt, lot, token, word, settings, limit, purpose),
+        Err(SlowPart::NotBegun) => call_in_turn(rt, lot, token, word, settings, limit, purpose),
     }
 }

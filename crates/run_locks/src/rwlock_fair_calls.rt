@@ -54,7 +54,7 @@ fn bump_name(access: Access) -> &'static Deed {
 // Does the rest of a call, from a place.
 #[cold]
 #[inline(never)]
-fn rest<R: Wait>(
+fn finish_by_driver<R: Wait>(
     rt: &R,
     lot: &ParkingLot,
     token: &mut Token,
@@ -107,7 +107,7 @@ pub fn release_exclusive<R: Wait>(
     let name = &Deed::Call(CallName::UnlockExclusiveFair);
     let seen = first_step_with(rt, lot, token, name, *word, LEAVE_ALONE);
     if seen != WRITER {
-        rest(rt, lot, token, word, admission, HAND_OVER);
+        finish_by_driver(rt, lot, token, word, admission, HAND_OVER);
     }
 }
 
@@ -144,7 +144,7 @@ pub fn release_upgradable<R: Wait>(
         bumps: false,
         at: HandOverAt::Load,
     };
-    rest(rt, lot, token, word, admission, &at);
+    finish_by_driver(rt, lot, token, word, admission, &at);
 }
 
 /// An owner gives its right up where others wait for it, and enters again. Where nobody does, that
@@ -173,6 +173,6 @@ pub fn bump<R: Wait>(
     let seen = first_step_with(rt, lot, token, name, *word, Op::Load);
     match RwLockCallPlace::PeekQueue(access).next(*admission, Reply::Value(seen)) {
         Next::End(answer) => answer,
-        Next::At(at) => rest(rt, lot, token, word, admission, &at),
+        Next::At(at) => finish_by_driver(rt, lot, token, word, admission, &at),
     }
 }

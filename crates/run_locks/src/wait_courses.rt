@@ -14,7 +14,7 @@ ghost use Rattle.steps_mutex.specs.declared.unlock.UnlockAt.TheVariants as unloc
 ghost use Rattle.run_locks.specs.CondvarCourses.{locks_at, releases_at, wait_at};
 ghost use Rattle.run_base.specs.MutexCourses.{taken_on};
 
-use crate::condvar_courses::{Pair, rest};
+use crate::condvar_courses::{Pair, finish_by_driver};
 use core_base::main_key;
 use lot_steps::{Reply, Wakes};
 use parking_lot_core::{Clock, Keys, Note, Op, ParkingLot, QueuePlace, Section, Token, Want};
@@ -75,7 +75,7 @@ fn lock_free<'a, R: Wait, C: Clock>(
     }
     let place = pair.waits(timed, locks(LockAt::Decide(seen)));
     let next = place.next_place(Reply::Value(found));
-    rest(rt, lot, token, pair.words, limit, section, None, next)
+    finish_by_driver(rt, lot, token, pair.words, limit, section, None, next)
 }
 
 // Looks which thread owns the mutex, whose word was not 0.
@@ -104,7 +104,7 @@ fn lock_seen<'a, R: Wait, C: Clock>(
     );
     if is_locked(seen) {
         let place = pair.waits(timed, locks(LockAt::Decide(seen)));
-        return rest(rt, lot, token, pair.words, limit, section, None, place);
+        return finish_by_driver(rt, lot, token, pair.words, limit, section, None, place);
     }
     lock_free(rt, lot, token, pair, limit, section, timed, seen)
 }
@@ -170,7 +170,7 @@ fn fall_asleep<'a, R: Wait, C: Clock>(
         return lock_again(rt, lot, token, pair, limit, section, timed);
     }
     let next = place.next_place(reply);
-    rest(rt, lot, token, pair.words, limit, section, queue, next)
+    finish_by_driver(rt, lot, token, pair.words, limit, section, queue, next)
 }
 
 // Leaves the section of the mutex, wakes the one that it took there, if any, and sleeps.
@@ -310,7 +310,7 @@ pub(crate) fn wait_course<R: Wait, C: Clock>(
     let seen = turn_word(lot, token, words, limit, &section, pair.condvar, op);
     if !may_show(seen, pair.mutex) {
         let place = pair.waits(timed, WaitAt::Refuse);
-        return rest(rt, lot, token, words, limit, section, None, place);
+        return finish_by_driver(rt, lot, token, words, limit, section, None, place);
     }
     let queue = turn_stand(lot, token, words, limit, &mut section, key, Want::Wait);
     let keys = Keys::One(key);

@@ -7,7 +7,7 @@ ghost use Rattle.steps_mutex.specs.MutexSteps.{hand_off_word};
 ghost use Rattle.steps_mutex.specs.declared.hand_off.HandOffAt.TheVariants as hand_off;
 ghost use Rattle.run_mutexes.specs.LockCourses.{hands_at};
 
-use crate::rests::rest;
+use crate::finish::finish_by_driver;
 use core_base::main_key;
 use lot_steps::{Place, Wakes};
 use parking_lot_core::{Clock, Keys, Note, Op, ParkingLot, Section, Token};
@@ -93,5 +93,5 @@ pub(crate) fn hand_over_through<R: Wait, C: Clock>(
             none_left,
         },
     );
-    rest(rt, lot, token, words, limit, section, None, place)
+    finish_by_driver(rt, lot, token, words, limit, section, None, place)
 }

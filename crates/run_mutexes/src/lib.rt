@@ -20,7 +20,7 @@
 #![tactic(auto)]
 
 pub mod calls;
+mod finish;
 mod hand_off_courses;
 mod lock_courses;
-mod rests;
 pub mod unlocks;

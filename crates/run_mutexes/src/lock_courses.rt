@@ -8,7 +8,7 @@ ghost use Rattle.steps_mutex.specs.MutexSteps.{entered};
 ghost use Rattle.steps_mutex.specs.declared.lock.LockAt.TheVariants as lock;
 ghost use Rattle.run_mutexes.specs.LockCourses.{locks_at};
 
-use crate::rests::rest;
+use crate::finish::finish_by_driver;
 use core_base::main_key;
 use lot_steps::{Check, Place, Reply, Wakes};
 use parking_lot_core::{Clock, Keys, Note, Op, ParkingLot, QueuePlace, Section, Token, Want};
@@ -81,7 +81,7 @@ fn fall_asleep<'a, R: Wait, C: Clock>(
         return entered(entry);
     }
     let next = place.next_place(reply);
-    rest(rt, lot, token, words, limit, section, queue, next)
+    finish_by_driver(rt, lot, token, words, limit, section, queue, next)
 }
 
 // Stands after the last that waits, if the mutex is owned still, and sleeps.
@@ -122,7 +122,7 @@ fn park<R: Wait, C: Clock>(
         return fall_asleep(rt, lot, token, words, limit, section, queue, mutex, entry);
     }
     let place = locks(mutex, entry, LockAt::Load);
-    rest(rt, lot, token, words, limit, section, None, place)
+    finish_by_driver(rt, lot, token, words, limit, section, None, place)
 }
 
 /// A lock whose first step saw a waiter, from there to its answer.
@@ -149,5 +149,5 @@ pub(crate) fn lock_course<R: Wait, C: Clock>(
         return park(rt, lot, token, words, limit, mutex, entry);
     }
     let place = locks(mutex, entry, LockAt::Decide(seen));
-    rest(rt, lot, token, words, limit, section, None, place)
+    finish_by_driver(rt, lot, token, words, limit, section, None, place)
 }

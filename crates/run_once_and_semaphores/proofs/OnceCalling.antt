@@ -8,8 +8,8 @@ use Rattle.spec_locks.specs.declared.calls.OnceCall.TheVariants.{CallOnce, Wait,
 use Rattle.spec_locks.specs.declared.outcomes.Answer.{Answer}
 use Rattle.spec_locks.specs.declared.outcomes.Answer.TheVariants as answers
 use Rattle.spec_locks.specs.declared.outcomes.OnceState.{OnceState}
-use Rattle.steps_base.specs.declared.acts.Act as act
-use Rattle.steps_base.specs.declared.acts.Next as next
+use Rattle.steps_base.specs.declared.acts.Act.TheVariants as act
+use Rattle.steps_base.specs.declared.acts.Next.TheVariants as next
 use Rattle.steps_base.specs.declared.acts.Reply.TheVariants.{Value}
 use Rattle.steps_condvar.specs.declared.places.CondvarPlace.TheVariants as waiting
 use Rattle.steps_once.specs.OnceSteps.{course_act, course_of, ended, give_up_act, in_look, in_run, look_act}
@@ -58,13 +58,13 @@ use Rattle.run_once_and_semaphores.specs.Ran.{RanNothing}
 
 -- a look runs no closure
 no_course : (n seen : ℕ) (course : Course) (state : OnceState) → course_act n seen course
-    ≡ act.TheVariants.Closure state → ⊥
+    ≡ act.Closure state → ⊥
 no_course n seen (Ends answer) state e = cc
 no_course n seen Runs state e = cc
 no_course n seen Marks state e = cc
 no_course n seen Parks state e = cc
 
-no_look : (n : ℕ) (c : OnceCall) (at : LookAt) (state : OnceState) → look_act n c at ≡ act.TheVariants.Closure
+no_look : (n : ℕ) (c : OnceCall) (at : LookAt) (state : OnceState) → look_act n c at ≡ act.Closure
     state → ⊥
 no_look n c look.Load state e = cc
 no_look n c (look.Decide seen) state e = no_course n seen (course_of c seen) state e
@@ -74,7 +74,7 @@ no_look n c look.Asleep state e = cc
 no_look n c (look.Taken by) state e = cc
 
 -- nor does a thread that gives up
-no_give_up : (n : ℕ) (at : GiveUpAt) (state : OnceState) → give_up_act n at ≡ act.TheVariants.Closure state
+no_give_up : (n : ℕ) (at : GiveUpAt) (state : OnceState) → give_up_act n at ≡ act.Closure state
     → ⊥
 no_give_up n give_up.Remove state e = cc
 no_give_up n give_up.Clear state e = cc
@@ -102,8 +102,8 @@ paused up n c base (RwLock l a at) state st s = absurd (rwlock_no_closure up l a
 paused up n c base (Once l (Look c2 r at)) state st s = absurd (no_look l c2 at state s.2)
 paused up n c base (Once l (Run forced (run.Closure poisoned))) state st s =
     let aim : of_once l (CallOnce forced) ≡ of_once n c = s.1 in
-    let same : l ≡ n = cc in let call : CallOnce forced ≡ c = cc in let is : act.TheVariants.Closure
-    (state_before poisoned) ≡ act.TheVariants.Closure state = s.2 in
+    let same : l ≡ n = cc in let call : CallOnce forced ≡ c = cc in let is : act.Closure
+    (state_before poisoned) ≡ act.Closure state = s.2 in
     let told : state_before poisoned ≡ state = cc in record {
       forced = forced;
       poisoned = poisoned;
@@ -148,7 +148,7 @@ module _ (n : ℕ) where
   -- the first step of a call ends it, or leads on
   pub looks_ended : (c : OnceCall) (seen : ℕ) (old mid : Token) (answer : Answer) → steps_of mid
       ≡ steps_of old ++ step (once_at n) Load seen → told_of mid ≡ told_of old
-      → next_act (once_begin n c) (Value seen) ≡ act.TheVariants.End answer → RanNothing n c answer old mid
+      → next_act (once_begin n c) (Value seen) ≡ act.End answer → RanNothing n c answer old mid
   looks_ended c seen old mid answer e told ends = over_at_once (at_once n) old.number (once_begin n c) n Load
       seen (trail_of old None) (trail_of mid None) answer refl (after_once n c seen)
       (one_more _ _ _ _ _ e told) ends
@@ -176,7 +176,7 @@ module _ (n : ℕ) where
 
   -- a thread that finds it done ends
   pub done_ends : (c : OnceCall) (seen : ℕ) → is_done seen ≡ true → next_act (once_begin n c) (Value seen)
-      ≡ act.TheVariants.End (when_done c)
+      ≡ act.End (when_done c)
   done_ends (CallOnce forced) seen e = rw e refl
   done_ends (Wait forced) seen e = rw e refl
   done_ends WaitTimed seen e = rw e refl
@@ -235,8 +235,8 @@ module _ (n : ℕ) where
   closes_at_once forced s seen me old new unmarked e = over_at_once (at_once n) me (run_end n forced s) n
       (Swap (word_after s)) seen old new (ended s) refl (unqueued_once n (Run forced (run.Close s)) seen tt
       refl) e
-      (ap (λ (b : Bool). once_does n (in_run forced (if b then next.TheVariants.At (run.Enter s)
-      else next.TheVariants.End (ended s)))) unmarked)
+      (ap (λ (b : Bool). once_does n (in_run forced (if b then next.At (run.Enter s)
+      else next.End (ended s)))) unmarked)
 
   pub closes_on : (forced s : Bool) (seen me : ℕ) (old mid new : Trail) (answer : Answer) → is_marked seen
       ≡ true → mid ≡ recorded_all old (one (once_at n) (Swap (word_after s)) seen) → answer ≡ ended s
@@ -246,8 +246,8 @@ module _ (n : ℕ) where
       (run_end n forced s) n (Swap (word_after s)) seen old mid new (ended s) refl
       (unqueued_once n (Run forced (run.Close s)) seen tt refl) e
       (subst (λ (p : Place). Courses (at_once n) me p mid new (ended s))
-      (sym (ap (λ (b : Bool). once_goes n (in_run forced (if b then next.TheVariants.At (run.Enter s)
-      else next.TheVariants.End (ended s)))) marked))
+      (sym (ap (λ (b : Bool). once_goes n (in_run forced (if b then next.At (run.Enter s)
+      else next.End (ended s)))) marked))
       (subst (Courses (at_once n) me (Once n (Run forced (run.Enter s))) mid new) is rest))
 
   pub word_left : (s : Bool) → (word_after s ≡ 1) ⊎ (word_after s ≡ 2)

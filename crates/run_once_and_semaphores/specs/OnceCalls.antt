@@ -14,7 +14,7 @@ use Rattle.core_words.specs.Lots.{IsWordOf}
 use Rattle.core_words.specs.declared.owners.Ownership.{Ownership}
 use Rattle.core_words.specs.declared.views.WordStep.{WordStep}
 use Rattle.core_words.specs.declared.words.Word.{Word}
-use Rattle.core_words.specs.declared.words.WordKind as kinds
+use Rattle.core_words.specs.declared.words.WordKind.TheVariants as kinds
 use Rattle.parking_lot_core.specs.Tokens.{IsTokenOf, told_of}
 use Rattle.parking_lot_core.specs.declared.lot.ParkingLot.{ParkingLot}
 use Rattle.parking_lot_core.specs.declared.tokens.SectionRecord.{SectionRecord}
@@ -31,7 +31,7 @@ use Rattle.run_once_and_semaphores.specs.declared.once_calls.Look.TheVariants.{E
 -- a thread of the lot, and a `Once` of it whose keys are numbers
 abbrev pub MeetsOnce : ParkingLot → Token → Word → Type 0
 MeetsOnce lot token word = IsTokenOf lot token × IsWordOf lot.words word
-    × (word.kind ≡ kinds.TheVariants.Once) × (word.number < 9223372036854775808)
+    × (word.kind ≡ kinds.Once) × (word.number < 9223372036854775808)
 
 -- where a call begins, and where it is in its closure and ends its run
 abbrev pub once_begin : ℕ → OnceCall → Place

@@ -13,7 +13,7 @@ use Rattle.spec_locks.specs.declared.outcomes.OnceState.{OnceState}
 use Rattle.spec_locks.specs.declared.outcomes.OnceState.TheVariants as states
 use Rattle.steps_once.specs.OnceSteps.{state_before}
 use Rattle.core_words.specs.declared.words.Word.{Word}
-use Rattle.core_words.specs.declared.words.WordKind as kinds
+use Rattle.core_words.specs.declared.words.WordKind.TheVariants as kinds
 use Rattle.parking_lot_core.specs.Tokens.{last_of}
 use Rattle.parking_lot_core.specs.declared.lot.ParkingLot.{ParkingLot}
 use Rattle.parking_lot_core.specs.declared.tokens.Token.{Token}
@@ -45,7 +45,7 @@ MissedStart n old new = (seen : ℕ) × (seen ≢ 0)
 
 -- a word was drawn, and the one step on it saw that
 abbrev pub DrewUsed : ParkingLot → Token → Token → Type 0
-DrewUsed lot old new = (word : Word) × (mid : Token) × Drew kinds.TheVariants.Once lot word old mid
+DrewUsed lot old new = (word : Word) × (mid : Token) × Drew kinds.Once lot word old mid
     × MissedStart word.number mid new
 
 -- how far it has come, by its word

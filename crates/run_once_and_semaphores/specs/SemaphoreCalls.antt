@@ -15,7 +15,7 @@ use Rattle.lot_steps.specs.declared.places.Place.TheVariants.{Semaphore}
 use Rattle.core_words.specs.Lots.{IsWordOf}
 use Rattle.core_words.specs.declared.views.WordStep.{WordStep}
 use Rattle.core_words.specs.declared.words.Word.{Word}
-use Rattle.core_words.specs.declared.words.WordKind as kinds
+use Rattle.core_words.specs.declared.words.WordKind.TheVariants as kinds
 use Rattle.parking_lot_core.specs.Tokens.{IsTokenOf, last_of, told_of}
 use Rattle.parking_lot_core.specs.declared.lot.ParkingLot.{ParkingLot}
 use Rattle.parking_lot_core.specs.declared.tokens.SectionRecord.{SectionRecord}
@@ -27,7 +27,7 @@ use Rattle.run_base.specs.Telling.{owns_of, steps_of}
 
 -- a word of a semaphore, whatever its permits are
 abbrev pub IsSemaphore : Word → Type 0
-IsSemaphore word = (permits : ℕ) × (word.kind ≡ kinds.TheVariants.Semaphore permits)
+IsSemaphore word = (permits : ℕ) × (word.kind ≡ kinds.Semaphore permits)
 
 -- a thread of the lot, and a semaphore of it whose keys are numbers
 abbrev pub MeetsSemaphore : ParkingLot → Token → Word → Type 0
@@ -77,7 +77,7 @@ abbrev pub HasGone : ℕ → Place → Answer → Token → Token → Type 0
 HasGone n p answer old new =
     Courses (at_semaphore n) old.number p (trail_of old None) (trail_of new None) answer
 
--- they lead from its beginning
+-- items that lead from the beginning of the call
 abbrev pub HasWalkedSemaphore : ℕ → SemaphoreCall → Answer → Token → Token → Type 0
 HasWalkedSemaphore n call answer old new = HasGone n (semaphore_begin n call) answer old new
 

@@ -6,7 +6,7 @@ use Rattle.core_base.specs.declared.ops.Op.TheVariants.{Add, Load}
 use Rattle.core_words.specs.Codes.{shared}
 use Rattle.core_words.specs.Views.{drew_permits, owned}
 use Rattle.core_words.specs.declared.words.Word.{Word}
-use Rattle.core_words.specs.declared.words.WordKind as kinds
+use Rattle.core_words.specs.declared.words.WordKind.TheVariants as kinds
 use Rattle.parking_lot_core.specs.declared.lot.ParkingLot.{ParkingLot}
 use Rattle.parking_lot_core.specs.declared.tokens.Token.{Token}
 use Rattle.run_base.specs.Drawing.{Drew}
@@ -34,7 +34,7 @@ semaphore_of permit = permit.semaphore.now
 -- a word was drawn with so many permits, and all of them were given to each thread that comes
 abbrev pub HasMade : ℕ → Semaphore → Token → Token → Type 0
 HasMade permits semaphore old new = (mid : Token) × (seen : ℕ)
-    × Drew (kinds.TheVariants.Semaphore permits) (lot_of semaphore) (word_of semaphore) old mid
+    × Drew (kinds.Semaphore permits) (lot_of semaphore) (word_of semaphore) old mid
     × (steps_of new ≡ steps_of mid ++ step (semaphore_at (number_of semaphore)) (Add (2 * permits)) seen)
 
 -- one load of the word saw so many permits free, or more than there are; with those that the thread holds

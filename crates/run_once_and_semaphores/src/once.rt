@@ -137,11 +137,11 @@ impl Once {
             from: 0,
             to: LOCKED,
         };
-        let seen = self.lot.word(token, self.word, start);
+        let seen = self.lot.step_word(token, self.word, start);
         if seen != 0 {
             return false;
         }
-        let _running = self.lot.word(token, self.word, Op::Swap(DONE));
+        let _running = self.lot.step_word(token, self.word, Op::Swap(DONE));
         self.lot.declares(self.word, Sort::DoneOnce);
         true
     }
@@ -366,8 +366,8 @@ impl Once {
         }
     }
 
-    /// Waits until a run has succeeded. False only where so much time, in nanoseconds of the clock,
-    /// had passed.
+    /// Waits until a run has succeeded. False once so much time, in nanoseconds of the clock, has
+    /// passed.
     ///
     /// A time that ends past all that a `u64` tells is no limit.
     ///
@@ -397,7 +397,7 @@ impl Once {
         self.wait_timed(rt, token, limit_in(clock, timeout))
     }
 
-    /// Waits until a run has succeeded. False only where the clock had come to the deadline.
+    /// Waits until a run has succeeded. False once the clock has come to the deadline.
     ///
     /// # Errors
     ///

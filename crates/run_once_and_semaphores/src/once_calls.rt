@@ -75,7 +75,7 @@ pub(crate) fn begin(lot: &ParkingLot, token: &mut Token, word: Word) -> u64
     ensures own { IsSameThread lot.now token.old token.new }
     ensures seen { HasLookedFirst word.number result token.old token.new }
 {
-    lot.word_again(token, word, Op::Load)
+    lot.step_word_unrecorded(token, word, Op::Load)
 }
 
 /// Runs the rest of a call whose first step saw this, up to its closure, or up to a deadline where

@@ -257,7 +257,7 @@ impl Semaphore {
         self.retry(rt, token, found)
     }
 
-    /// Waits for a permit. None only where so much time, in nanoseconds of the clock, had passed.
+    /// Waits for a permit. None once so much time, in nanoseconds of the clock, has passed.
     ///
     /// A time that ends past all that a `u64` tells is no limit.
     pub fn try_acquire_for<'a, R: Wait, C: Clock>(
@@ -278,7 +278,7 @@ impl Semaphore {
         self.wait(rt, token, &limit_in(clock, timeout), true)
     }
 
-    /// Waits for a permit. None only where the clock had come to the deadline, in nanoseconds.
+    /// Waits for a permit. None once the clock has come to the deadline, in nanoseconds.
     #[inline]
     pub fn try_acquire_until<'a, R: Wait, C: Clock>(
         &'a self,

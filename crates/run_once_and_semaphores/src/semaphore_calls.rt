@@ -48,7 +48,7 @@ pub(crate) fn look(lot: &ParkingLot, token: &mut Token, word: Word) -> u64
     ensures looked { HasLooked word.number result token.old token.new }
 {
     semaphore_may_step();
-    lot.word_again(token, word, Op::Load)
+    lot.step_word_unrecorded(token, word, Op::Load)
 }
 
 /// Takes that load once the thread has its turn for it.
@@ -89,7 +89,7 @@ pub(crate) fn take(lot: &ParkingLot, token: &mut Token, word: Word, seen: u64) -
         from: seen,
         to: seen - 2,
     };
-    lot.word_again(token, word, op)
+    lot.step_word_unrecorded(token, word, op)
 }
 
 /// Makes the addition that gives a permit back. Returns the value before.
@@ -104,7 +104,7 @@ pub(crate) fn give(lot: &ParkingLot, token: &mut Token, word: Word) -> u64
 {
     semaphore_may_step();
     semaphore_trades();
-    lot.word_again(token, word, Op::Add(2))
+    lot.step_word_unrecorded(token, word, Op::Add(2))
 }
 
 /// The addition that gives all permits of a new semaphore, which its thread holds.
@@ -120,7 +120,7 @@ pub(crate) fn give_all(lot: &ParkingLot, token: &mut Token, word: Word, permits:
         → owns_of token.old ≡ holding (semaphore_at word.number) permits ++ rest
         → owns_of token.new ≡ rest }
 {
-    lot.word(token, word, Op::Add(2 * permits));
+    lot.step_word(token, word, Op::Add(2 * permits));
 }
 
 // Runs a call of a semaphore from a place to its answer.

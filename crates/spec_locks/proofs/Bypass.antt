@@ -8,7 +8,7 @@ use Rattle.std.specs.Prelude.{drop}
 use Rattle.core_base.specs.declared.wants.Want.{Want}
 use Rattle.core_base.specs.declared.wants.Want.TheVariants.{Exclusive, Upgradable, Shared}
 use Rattle.spec_locks.specs.declared.calls.Turn.{Turn}
-use Rattle.spec_locks.specs.declared.calls.Turn as turn
+use Rattle.spec_locks.specs.declared.calls.Turn.TheVariants as turn
 use Rattle.spec_locks.specs.declared.outcomes.Outcome.{Outcome}
 use Rattle.spec_locks.specs.Condvars.{moved_of, line_of, taken_of}
 use Rattle.spec_locks.specs.Locks as locks
@@ -346,12 +346,12 @@ module _ (w v : LocksState) (u n t l : ℕ) (o : Outcome) (all : AreLockStates w
     by_same e = subst (Costs n t (w.locks l)) (sym e) (costs_same n t (w.locks l) (w.locks l) refl refl refl)
 
     by_turn : (x : Turn) → Does w u x o v → Costs n t (w.locks l) (v.locks l)
-    by_turn (turn.TheVariants.Begin c) d = by_same (d.locks l)
-    by_turn turn.TheVariants.Go d = by_event d
-    by_turn turn.TheVariants.Spin d = by_event d.goes
-    by_turn turn.TheVariants.Late d = by_same (d.locks l)
-    by_turn turn.TheVariants.Ok d = by_event d.goes
-    by_turn turn.TheVariants.Err d = by_event d.goes
+    by_turn (turn.Begin c) d = by_same (d.locks l)
+    by_turn turn.Go d = by_event d
+    by_turn turn.Spin d = by_event d.goes
+    by_turn turn.Late d = by_same (d.locks l)
+    by_turn turn.Ok d = by_event d.goes
+    by_turn turn.Err d = by_event d.goes
 
     turned : (x : Turn) → Turned w u x o v → Costs n t (w.locks l) (v.locks l)
     turned x (inl d) = by_turn x d.1

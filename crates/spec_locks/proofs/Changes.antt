@@ -2,7 +2,7 @@
 use Rattle.std.proofs.Common.{ℕ, Bool, true, false, if◌then◌else◌, ◌==◌, ◌≡◌, inl, inr, refl, sym, ap, subst}
 use Rattle.std.proofs.lemmas.Bool.{eqb-true}
 use Rattle.spec_locks.specs.declared.calls.Turn.{Turn}
-use Rattle.spec_locks.specs.declared.calls.Turn as turn
+use Rattle.spec_locks.specs.declared.calls.Turn.TheVariants as turn
 use Rattle.spec_locks.specs.declared.outcomes.Outcome.{Outcome}
 use Rattle.spec_locks.specs.Condvars.{moved_of}
 use Rattle.spec_locks.specs.Locks.{LockCase, LockState, after_case, left_after, putting}
@@ -56,12 +56,12 @@ module _ (w : LocksState) (t l : ℕ) (R : LockState → Type 0) (same : R (w.lo
     goes g = subst R (sym (g.locks l)) (events g.event g.may g.begins)
 
     does : (x : Turn) → Does w t x o v → R (v.locks l)
-    does (turn.TheVariants.Begin c) d = subst R (sym (d.locks l)) same
-    does turn.TheVariants.Late d = subst R (sym (d.locks l)) same
-    does turn.TheVariants.Go d = goes d
-    does turn.TheVariants.Spin d = goes d.goes
-    does turn.TheVariants.Ok d = goes d.goes
-    does turn.TheVariants.Err d = goes d.goes
+    does (turn.Begin c) d = subst R (sym (d.locks l)) same
+    does turn.Late d = subst R (sym (d.locks l)) same
+    does turn.Go d = goes d
+    does turn.Spin d = goes d.goes
+    does turn.Ok d = goes d.goes
+    does turn.Err d = goes d.goes
 
     pub by_step : (x : Turn) → Turned w t x o v → R (v.locks l)
     by_step x (inl d) = does x d.1

@@ -8,7 +8,7 @@ use Rattle.std.specs.Prelude.{drop}
 use Rattle.core_base.specs.declared.wants.Want.{Want}
 use Rattle.core_base.specs.declared.wants.Want.TheVariants.{Exclusive, Upgradable, Shared}
 use Rattle.spec_locks.specs.declared.calls.Turn.{Turn}
-use Rattle.spec_locks.specs.declared.calls.Turn as turn
+use Rattle.spec_locks.specs.declared.calls.Turn.TheVariants as turn
 use Rattle.spec_locks.specs.declared.outcomes.Outcome.{Outcome}
 use Rattle.spec_locks.specs.Condvars.{moved_of}
 use Rattle.spec_locks.specs.Locks as locks
@@ -372,12 +372,12 @@ module _ (w v : LocksState) (t l : ℕ) (o : Outcome) (all : AreLockStates w) (m
       by_owner h (Some x) e = inl (λ f. let k : ◌≡◌ {A = Option ℕ} (Some x) None = sym e ∙ f in cc)
 
   does_fairly : (x : Turn) → Does w t x o v → FairlyGoes w v t l
-  does_fairly (turn.TheVariants.Begin c) d = same_lock (d.locks l)
-  does_fairly turn.TheVariants.Go d = goes d
-  does_fairly turn.TheVariants.Spin d = goes d.goes
-  does_fairly turn.TheVariants.Late d = same_lock (d.locks l)
-  does_fairly turn.TheVariants.Ok d = goes d.goes
-  does_fairly turn.TheVariants.Err d = goes d.goes
+  does_fairly (turn.Begin c) d = same_lock (d.locks l)
+  does_fairly turn.Go d = goes d
+  does_fairly turn.Spin d = goes d.goes
+  does_fairly turn.Late d = same_lock (d.locks l)
+  does_fairly turn.Ok d = goes d.goes
+  does_fairly turn.Err d = goes d.goes
 
   pub fairly_goes : (x : Turn) → Turned w t x o v → FairlyGoes w v t l
   fairly_goes x (inl d) = does_fairly x d.1

@@ -15,12 +15,12 @@ use Rattle.spec_locks.specs.declared.calls.SemaphoreCall.{SemaphoreCall}
 use Rattle.spec_locks.specs.declared.calls.SemaphoreCall.TheVariants as semaphore_call
 use Rattle.spec_locks.specs.declared.calls.Step.{Step}
 use Rattle.spec_locks.specs.declared.calls.Turn.{Turn}
-use Rattle.spec_locks.specs.declared.calls.Turn as turn
+use Rattle.spec_locks.specs.declared.calls.Turn.TheVariants as turn
 use Rattle.spec_locks.specs.declared.kinds.Kind.{Kind}
 use Rattle.spec_locks.specs.declared.kinds.Kind.TheVariants as kind
 use Rattle.spec_locks.specs.declared.outcomes.Answer.{Answer}
 use Rattle.spec_locks.specs.declared.outcomes.Outcome.{Outcome}
-use Rattle.spec_locks.specs.declared.outcomes.Outcome as outcome
+use Rattle.spec_locks.specs.declared.outcomes.Outcome.TheVariants as outcome
 use Rattle.spec_locks.specs.Kinds.{is_plain_mutex}
 use Rattle.spec_locks.specs.Purposes.{purpose_of, mutex_purpose, rwlock_purpose}
 use Rattle.spec_locks.specs.Runs.{LocksState, CallState, Does, HasRight, MayTurn, Turned, new_call}
@@ -134,13 +134,13 @@ module _ (l : ℕ) where
 
 -- ---------------------------------------------------------------- a step
 
-is_end : (o : Outcome) → ((a : Answer) × (o ≡ outcome.TheVariants.End a))
-    ⊎ ((a : Answer) → o ≢ outcome.TheVariants.End a)
-is_end (outcome.TheVariants.End a) = inl (a, refl)
-is_end outcome.TheVariants.NotNow = inr (λ a e. cc)
-is_end outcome.TheVariants.Step = inr (λ a e. cc)
-is_end outcome.TheVariants.Sleep = inr (λ a e. cc)
-is_end (outcome.TheVariants.Closure state) = inr (λ a e. cc)
+is_end : (o : Outcome) → ((a : Answer) × (o ≡ outcome.End a))
+    ⊎ ((a : Answer) → o ≢ outcome.End a)
+is_end (outcome.End a) = inl (a, refl)
+is_end outcome.NotNow = inr (λ a e. cc)
+is_end outcome.Step = inr (λ a e. cc)
+is_end outcome.Sleep = inr (λ a e. cc)
+is_end (outcome.Closure state) = inr (λ a e. cc)
 
 -- calls of the mutex are fair ones after it
 module _ (w v : LocksState) (s : Step) (o : Outcome) (l : ℕ) (fair : w.kinds l ≡ kind.Fair)
@@ -149,46 +149,46 @@ module _ (w v : LocksState) (s : Step) (o : Outcome) (l : ℕ) (fair : w.kinds l
       → ReleasesFairly d.purpose l
   same_call c d e h = subst (λ p. ReleasesFairly p l) (sym e) h
 
-  by_turn : (x : Turn) → s.turn ≡ x → ((a : Answer) → o ≢ outcome.TheVariants.End a) → MayTurn w s.thread x
+  by_turn : (x : Turn) → s.turn ≡ x → ((a : Answer) → o ≢ outcome.End a) → MayTurn w s.thread x
       → Does w s.thread x o v
       → ReleasesFairly (v.calls s.thread).purpose l
-  by_turn (turn.TheVariants.Begin c) e more may does =
+  by_turn (turn.Begin c) e more may does =
       same_call (new_call (purpose_at w c) (rights_in w s.thread)) (v.calls s.thread)
       (ap (λ (d : CallState). d.purpose)
       (stay_own w v s.thread o (new_call (purpose_at w c) (rights_in w s.thread)) does))
       (begun l w s.thread fair c may.right)
-  by_turn turn.TheVariants.Late e more may does = same_call (w.calls s.thread) (v.calls s.thread)
+  by_turn turn.Late e more may does = same_call (w.calls s.thread) (v.calls s.thread)
       (ap (λ (d : CallState). d.purpose) (stay_own w v s.thread o (record (w.calls s.thread) { late = true })
       does)) (all s.thread)
-  by_turn turn.TheVariants.Go e more may does = same_call (w.calls s.thread) (v.calls s.thread)
+  by_turn turn.Go e more may does = same_call (w.calls s.thread) (v.calls s.thread)
       (goes_on w v s o turned s.thread
       (λ f. (
-        (λ c g. let h : turn.TheVariants.Go ≡ turn.TheVariants.Begin c = sym e ∙ g in cc),
-        (λ g. let h : turn.TheVariants.Go ≡ turn.TheVariants.Late = sym e ∙ g in cc),
+        (λ c g. let h : turn.Go ≡ turn.Begin c = sym e ∙ g in cc),
+        (λ g. let h : turn.Go ≡ turn.Late = sym e ∙ g in cc),
         more,
       ))).purpose
       (all s.thread)
-  by_turn turn.TheVariants.Spin e more may does = same_call (w.calls s.thread) (v.calls s.thread)
+  by_turn turn.Spin e more may does = same_call (w.calls s.thread) (v.calls s.thread)
       (goes_on w v s o turned s.thread
       (λ f. (
-        (λ c g. let h : turn.TheVariants.Spin ≡ turn.TheVariants.Begin c = sym e ∙ g in cc),
-        (λ g. let h : turn.TheVariants.Spin ≡ turn.TheVariants.Late = sym e ∙ g in cc),
+        (λ c g. let h : turn.Spin ≡ turn.Begin c = sym e ∙ g in cc),
+        (λ g. let h : turn.Spin ≡ turn.Late = sym e ∙ g in cc),
         more,
       ))).purpose
       (all s.thread)
-  by_turn turn.TheVariants.Ok e more may does = same_call (w.calls s.thread) (v.calls s.thread)
+  by_turn turn.Ok e more may does = same_call (w.calls s.thread) (v.calls s.thread)
       (goes_on w v s o turned s.thread
       (λ f. (
-        (λ c g. let h : turn.TheVariants.Ok ≡ turn.TheVariants.Begin c = sym e ∙ g in cc),
-        (λ g. let h : turn.TheVariants.Ok ≡ turn.TheVariants.Late = sym e ∙ g in cc),
+        (λ c g. let h : turn.Ok ≡ turn.Begin c = sym e ∙ g in cc),
+        (λ g. let h : turn.Ok ≡ turn.Late = sym e ∙ g in cc),
         more,
       ))).purpose
       (all s.thread)
-  by_turn turn.TheVariants.Err e more may does = same_call (w.calls s.thread) (v.calls s.thread)
+  by_turn turn.Err e more may does = same_call (w.calls s.thread) (v.calls s.thread)
       (goes_on w v s o turned s.thread
       (λ f. (
-        (λ c g. let h : turn.TheVariants.Err ≡ turn.TheVariants.Begin c = sym e ∙ g in cc),
-        (λ g. let h : turn.TheVariants.Err ≡ turn.TheVariants.Late = sym e ∙ g in cc),
+        (λ c g. let h : turn.Err ≡ turn.Begin c = sym e ∙ g in cc),
+        (λ g. let h : turn.Err ≡ turn.Late = sym e ∙ g in cc),
         more,
       ))).purpose
       (all s.thread)

@@ -7,7 +7,7 @@ use Rattle.std.proofs.lemmas.Bool.Decides.{nat_tests}
 use Rattle.core_base.specs.declared.wants.Want.{Want}
 use Rattle.core_base.specs.declared.wants.Want.TheVariants.{Exclusive, Upgradable, Shared}
 use Rattle.spec_locks.specs.declared.calls.Turn.{Turn}
-use Rattle.spec_locks.specs.declared.calls.Turn as turn
+use Rattle.spec_locks.specs.declared.calls.Turn.TheVariants as turn
 use Rattle.spec_locks.specs.declared.outcomes.Outcome.{Outcome}
 use Rattle.spec_locks.specs.Condvars.{moved_of, taken_of}
 use Rattle.spec_locks.specs.Locks as locks
@@ -187,13 +187,13 @@ module _ (w v : LocksState) (t : ℕ) (o : Outcome) (all : AreLockStates w) (u :
 
   does : (x : Turn) → Does w t x o v → (l : ℕ) → TakesOneAtATime (rules_at w l).sort
       → (v.locks l).taken u ≢ None → First l
-  does (turn.TheVariants.Begin c) d l one some =
+  does (turn.Begin c) d l one some =
       inl (subst (λ (s : LockState). s.taken u ≢ None) (d.locks l) some)
-  does turn.TheVariants.Late d l one some = inl (subst (λ (s : LockState). s.taken u ≢ None) (d.locks l) some)
-  does turn.TheVariants.Go d l one some = goes d l one some
-  does turn.TheVariants.Spin d l one some = goes d.goes l one some
-  does turn.TheVariants.Ok d l one some = goes d.goes l one some
-  does turn.TheVariants.Err d l one some = goes d.goes l one some
+  does turn.Late d l one some = inl (subst (λ (s : LockState). s.taken u ≢ None) (d.locks l) some)
+  does turn.Go d l one some = goes d l one some
+  does turn.Spin d l one some = goes d.goes l one some
+  does turn.Ok d l one some = goes d.goes l one some
+  does turn.Err d l one some = goes d.goes l one some
 
   pub first_taken : (x : Turn) → Turned w t x o v → (l : ℕ) → TakesOneAtATime (rules_at w l).sort
       → (v.locks l).taken u ≢ None → First l

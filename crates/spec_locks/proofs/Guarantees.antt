@@ -9,12 +9,12 @@ use Rattle.core_base.specs.declared.keys.Keys.TheVariants.{One, Two}
 use Rattle.core_base.specs.Keys.{key_of}
 use Rattle.spec_locks.specs.declared.calls.Call.{Call}
 use Rattle.spec_locks.specs.declared.calls.Turn.{Turn}
-use Rattle.spec_locks.specs.declared.calls.Turn as turn
+use Rattle.spec_locks.specs.declared.calls.Turn.TheVariants as turn
 use Rattle.spec_locks.specs.declared.calls.Step.{Step}
 use Rattle.spec_locks.specs.declared.outcomes.Answer.{Answer}
 use Rattle.spec_locks.specs.declared.outcomes.Answer.TheVariants as answer
 use Rattle.spec_locks.specs.declared.outcomes.Outcome.{Outcome}
-use Rattle.spec_locks.specs.declared.outcomes.Outcome as outcome
+use Rattle.spec_locks.specs.declared.outcomes.Outcome.TheVariants as outcome
 use Rattle.spec_locks.specs.Onces.{IsRunning, Phase, New, Poisoned, InProgress, Done, Start, Finish, Fail}
 use Rattle.spec_locks.specs.Onces.{Rest, TakeAll}
 use Rattle.spec_locks.specs.Locks.{LockState, LockCase, Pending, Sort, Mutex, Normal, Recursive, Semaphore}
@@ -352,46 +352,46 @@ module _ (w v : LocksState) (t : ℕ) where
   recalls (AtLock l Rollback) may = recalled _ refl refl refl refl (λ r. r)
 
   module _ (o : Outcome) where
-    goes_told : GoesOn w t o v → o ≢ outcome.TheVariants.NotNow
+    goes_told : GoesOn w t o v → o ≢ outcome.NotNow
     goes_told g e = subst (λ x. Agrees t (going_on g.event (w.calls t)) x v) e g.agrees
 
-    step_told : o ≡ outcome.TheVariants.Step → o ≢ outcome.TheVariants.NotNow
-    step_told s e = let f : outcome.TheVariants.Step ≡ outcome.TheVariants.NotNow = sym s ∙ e in cc
+    step_told : o ≡ outcome.Step → o ≢ outcome.NotNow
+    step_told s e = let f : outcome.Step ≡ outcome.NotNow = sym s ∙ e in cc
 
-    does_told : (x : Turn) → Does w t x o v → o ≢ outcome.TheVariants.NotNow
-    does_told (turn.TheVariants.Begin c) d = step_told d.told
-    does_told turn.TheVariants.Go d = goes_told d
-    does_told turn.TheVariants.Spin d = goes_told d.goes
-    does_told turn.TheVariants.Late d = step_told d.told
-    does_told turn.TheVariants.Ok d = goes_told d.goes
-    does_told turn.TheVariants.Err d = goes_told d.goes
+    does_told : (x : Turn) → Does w t x o v → o ≢ outcome.NotNow
+    does_told (turn.Begin c) d = step_told d.told
+    does_told turn.Go d = goes_told d
+    does_told turn.Spin d = goes_told d.goes
+    does_told turn.Late d = step_told d.told
+    does_told turn.Ok d = goes_told d.goes
+    does_told turn.Err d = goes_told d.goes
 
     -- a call that ends goes on by an event
-    ends_going : (x : Turn) (a : Answer) → o ≡ outcome.TheVariants.End a → Does w t x o v → GoesOn w t o v
-    ends_going (turn.TheVariants.Begin c) a e d =
-        absurd (let f : outcome.TheVariants.Step ≡ outcome.TheVariants.End a = sym d.told ∙ e in cc)
-    ends_going turn.TheVariants.Go a e d = d
-    ends_going turn.TheVariants.Spin a e d = d.goes
-    ends_going turn.TheVariants.Late a e d =
-        absurd (let f : outcome.TheVariants.Step ≡ outcome.TheVariants.End a = sym d.told ∙ e in cc)
-    ends_going turn.TheVariants.Ok a e d = d.goes
-    ends_going turn.TheVariants.Err a e d = d.goes
+    ends_going : (x : Turn) (a : Answer) → o ≡ outcome.End a → Does w t x o v → GoesOn w t o v
+    ends_going (turn.Begin c) a e d =
+        absurd (let f : outcome.Step ≡ outcome.End a = sym d.told ∙ e in cc)
+    ends_going turn.Go a e d = d
+    ends_going turn.Spin a e d = d.goes
+    ends_going turn.Late a e d =
+        absurd (let f : outcome.Step ≡ outcome.End a = sym d.told ∙ e in cc)
+    ends_going turn.Ok a e d = d.goes
+    ends_going turn.Err a e d = d.goes
 
-    pub ended : (x : Turn) (a : Answer) → o ≡ outcome.TheVariants.End a → Turned w t x o v → GoesOn w t o v
+    pub ended : (x : Turn) (a : Answer) → o ≡ outcome.End a → Turned w t x o v → GoesOn w t o v
     ended x a e (inl d) = ends_going x a e d.1
-    ended x a e (inr r) = absurd (let f : outcome.TheVariants.NotNow ≡ outcome.TheVariants.End a = sym r.1.0
+    ended x a e (inr r) = absurd (let f : outcome.NotNow ≡ outcome.End a = sym r.1.0
         ∙ e in cc)
 
-    pub answered : (a : Answer) → o ≡ outcome.TheVariants.End a → (g : GoesOn w t o v)
+    pub answered : (a : Answer) → o ≡ outcome.End a → (g : GoesOn w t o v)
         → AnswerHolds (going_on g.event (w.calls t)).purpose v t (going_on g.event (w.calls t)) a
-    answered a e g = let agrees : Agrees t (going_on g.event (w.calls t)) (outcome.TheVariants.End a) v =
+    answered a e g = let agrees : Agrees t (going_on g.event (w.calls t)) (outcome.End a) v =
         subst (λ x. Agrees t (going_on g.event (w.calls t)) x v) e g.agrees in agrees.0
 
-    refused : (x : Turn) → Turned w t x o v → (o ≡ outcome.TheVariants.NotNow) ↔ (MayTurn w t x → ⊥)
+    refused : (x : Turn) → Turned w t x o v → (o ≡ outcome.NotNow) ↔ (MayTurn w t x → ⊥)
     refused x (inl d) = ((λ e. absurd (does_told x d.1 e)), (λ n. absurd (n d.0)))
     refused x (inr r) = ((λ e. r.0), (λ n. r.1.0))
 
-    nothing : (x : Turn) → Turned w t x o v → o ≡ outcome.TheVariants.NotNow → v ≡ w
+    nothing : (x : Turn) → Turned w t x o v → o ≡ outcome.NotNow → v ≡ w
     nothing x (inl d) e = absurd (does_told x d.1 e)
     nothing x (inr r) e = r.1.1
 
@@ -438,7 +438,7 @@ step_holds w v s o full safe h tries = record {
   first = λ u. first_taken w v s.thread o safe.exclude u s.turn h.1;
 }
   where
-    may_begin : (begun : Call) → s.turn ≡ turn.TheVariants.Begin begun → o ≢ outcome.TheVariants.NotNow
+    may_begin : (begun : Call) → s.turn ≡ turn.Begin begun → o ≢ outcome.NotNow
         → MayBegin w s.thread begun
     may_begin begun e told = elim h.1 [
       | inl does ↦ subst (MayTurn w s.thread) e does.0
@@ -461,7 +461,7 @@ safe_holds w full safe = record {
   heeds = safe.heeds;
 }
 
--- this state, and then those
+-- one state, and then others
 first_then : LocksState → (ℕ → LocksState) → ℕ → LocksState
 first_then w states zero = w
 first_then w states (suc n) = states n
@@ -560,7 +560,7 @@ moved_none v t c false call answer.Yes h holds =
     ])
 moved_none v t c all call a h holds = absurd holds
 
-told_nobody : (o : Outcome) → TellsNobody o → (a : Answer) × (o ≡ outcome.TheVariants.End a)
+told_nobody : (o : Outcome) → TellsNobody o → (a : Answer) × (o ≡ outcome.End a)
     × ((a ≡ answer.No) ⊎ (a ≡ answer.Number 0))
 told_nobody o (inl e) = (answer.No, e, inl refl)
 told_nobody o (inr e) = (answer.Number 0, e, inr refl)

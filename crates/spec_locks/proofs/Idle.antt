@@ -5,11 +5,11 @@ use Rattle.std.proofs.lemmas.Bool.{cases_eq}
 use Rattle.std.proofs.lemmas.Bool.Decides.{nat_tests}
 use Rattle.spec_locks.specs.declared.calls.Call.{Call}
 use Rattle.spec_locks.specs.declared.calls.Turn.{Turn}
-use Rattle.spec_locks.specs.declared.calls.Turn as turn
+use Rattle.spec_locks.specs.declared.calls.Turn.TheVariants as turn
 use Rattle.spec_locks.specs.declared.calls.Step.{Step}
 use Rattle.spec_locks.specs.declared.outcomes.Answer.{Answer}
 use Rattle.spec_locks.specs.declared.outcomes.Outcome.{Outcome}
-use Rattle.spec_locks.specs.declared.outcomes.Outcome as outcome
+use Rattle.spec_locks.specs.declared.outcomes.Outcome.TheVariants as outcome
 use Rattle.spec_locks.specs.Onces.{Start}
 use Rattle.spec_locks.specs.Condvars.{moved_of}
 use Rattle.spec_locks.specs.Locks.{LockCase, Leave, Wake, HandOff, Late, OfOnce, OfCondvar, Look}
@@ -143,13 +143,13 @@ same_number k = grind (arith, nat_tests)
 pub differs : (k n : ℕ) → k ≢ n → (k == n) ≡ false
 differs k n ne = grind (arith, nat_tests)
 
-pub unless_same : (o : Outcome) (c : CallState) → ((a : Answer) → o ≢ outcome.TheVariants.End a)
+pub unless_same : (o : Outcome) (c : CallState) → ((a : Answer) → o ≢ outcome.End a)
     → unless_ended o c ≡ c
-unless_same (outcome.TheVariants.End a) c n = absurd (n a refl)
-unless_same outcome.TheVariants.NotNow c n = refl
-unless_same outcome.TheVariants.Step c n = refl
-unless_same outcome.TheVariants.Sleep c n = refl
-unless_same (outcome.TheVariants.Closure state) c n = refl
+unless_same (outcome.End a) c n = absurd (n a refl)
+unless_same outcome.NotNow c n = refl
+unless_same outcome.Step c n = refl
+unless_same outcome.Sleep c n = refl
+unless_same (outcome.Closure state) c n = refl
 
 module _ (w v : LocksState) (t : ℕ) (o : Outcome) where
   pub own_then : (g : GoesOn w t o v) → v.calls t ≡ unless_ended o
@@ -163,11 +163,11 @@ module _ (w v : LocksState) (t : ℕ) (o : Outcome) where
       ∙ ap (λ (b : Bool). if b then unless_ended o (woken w t g.event t (going_on g.event (w.calls t)))
       else woken w t g.event u (w.calls u)) (differs u t ne)
 
-  event_ends : (g : GoesOn w t o v) (a : Answer) → o ≡ outcome.TheVariants.End a → v.calls t ≡ no_call
+  event_ends : (g : GoesOn w t o v) (a : Answer) → o ≡ outcome.End a → v.calls t ≡ no_call
   event_ends g a e = own_then g
       ∙ ap (λ x. unless_ended x (woken w t g.event t (going_on g.event (w.calls t)))) e
 
-  event_goes : (g : GoesOn w t o v) (u : ℕ) → (u ≡ t → (a : Answer) → o ≢ outcome.TheVariants.End a)
+  event_goes : (g : GoesOn w t o v) (u : ℕ) → (u ≡ t → (a : Answer) → o ≢ outcome.End a)
       → CallGoesOn (w.calls u) (v.calls u)
   event_goes g u under = elim (cases_eq u t) [
     | inl e ↦ subst (λ k. CallGoesOn (w.calls k) (v.calls k)) (sym e) (own (under e))
@@ -175,7 +175,7 @@ module _ (w v : LocksState) (t : ℕ) (o : Outcome) where
         (w.calls u)).0
   ]
     where
-      own : ((a : Answer) → o ≢ outcome.TheVariants.End a) → CallGoesOn (w.calls t) (v.calls t)
+      own : ((a : Answer) → o ≢ outcome.End a) → CallGoesOn (w.calls t) (v.calls t)
       own n = let afterwards = woken_goes w t g.event t (going_on g.event (w.calls t)) in
           subst (CallGoesOn (w.calls t)) (sym (own_then g ∙ unless_same o _ n))
           (call_then (w.calls t) (going_on g.event (w.calls t))
@@ -191,55 +191,55 @@ module _ (w v : LocksState) (t : ℕ) (o : Outcome) where
   stay_own c s = s.calls t ∙ ap (λ (b : Bool). if b then c else w.calls t) (same_number t)
 
 module _ (w v : LocksState) (s : Step) (o : Outcome) where
-  not_ended : o ≡ outcome.TheVariants.Step → (a : Answer) → o ≢ outcome.TheVariants.End a
-  not_ended e a f = let g : outcome.TheVariants.Step ≡ outcome.TheVariants.End a = sym e ∙ f in cc
+  not_ended : o ≡ outcome.Step → (a : Answer) → o ≢ outcome.End a
+  not_ended e a f = let g : outcome.Step ≡ outcome.End a = sym e ∙ f in cc
 
-  does_begin : (x : Turn) (c : Call) → x ≡ turn.TheVariants.Begin c → Does w s.thread x o v → v.calls s.thread
+  does_begin : (x : Turn) (c : Call) → x ≡ turn.Begin c → Does w s.thread x o v → v.calls s.thread
       ≡ new_call (purpose_at w c) (rights_in w s.thread)
-  does_begin (turn.TheVariants.Begin d) c e does = let same : d ≡ c = cc
+  does_begin (turn.Begin d) c e does = let same : d ≡ c = cc
       in subst (λ y. v.calls s.thread ≡ new_call (purpose_at w y) (rights_in w s.thread)) same
       (stay_own w v s.thread o _ does)
   does_begin x c e does = absurd cc
 
-  does_late : (x : Turn) → x ≡ turn.TheVariants.Late → Does w s.thread x o v → v.calls s.thread
+  does_late : (x : Turn) → x ≡ turn.Late → Does w s.thread x o v → v.calls s.thread
       ≡ record (w.calls s.thread) { late = true }
-  does_late turn.TheVariants.Late e does = stay_own w v s.thread o _ does
+  does_late turn.Late e does = stay_own w v s.thread o _ does
   does_late x e does = absurd cc
 
-  does_end : (x : Turn) (a : Answer) → o ≡ outcome.TheVariants.End a → Does w s.thread x o v
+  does_end : (x : Turn) (a : Answer) → o ≡ outcome.End a → Does w s.thread x o v
       → v.calls s.thread ≡ no_call
-  does_end (turn.TheVariants.Begin c) a e does = absurd (not_ended does.told a e)
-  does_end turn.TheVariants.Late a e does = absurd (not_ended does.told a e)
-  does_end turn.TheVariants.Go a e does = event_ends w v s.thread o does a e
-  does_end turn.TheVariants.Spin a e does = event_ends w v s.thread o does.goes a e
-  does_end turn.TheVariants.Ok a e does = event_ends w v s.thread o does.goes a e
-  does_end turn.TheVariants.Err a e does = event_ends w v s.thread o does.goes a e
+  does_end (turn.Begin c) a e does = absurd (not_ended does.told a e)
+  does_end turn.Late a e does = absurd (not_ended does.told a e)
+  does_end turn.Go a e does = event_ends w v s.thread o does a e
+  does_end turn.Spin a e does = event_ends w v s.thread o does.goes a e
+  does_end turn.Ok a e does = event_ends w v s.thread o does.goes a e
+  does_end turn.Err a e does = event_ends w v s.thread o does.goes a e
 
-  does_go_on : (x : Turn) (u : ℕ) → (u ≡ s.thread → ((c : Call) → x ≢ turn.TheVariants.Begin c)
-      × (x ≢ turn.TheVariants.Late) × ((a : Answer) → o ≢ outcome.TheVariants.End a)) → Does w s.thread x o v
+  does_go_on : (x : Turn) (u : ℕ) → (u ≡ s.thread → ((c : Call) → x ≢ turn.Begin c)
+      × (x ≢ turn.Late) × ((a : Answer) → o ≢ outcome.End a)) → Does w s.thread x o v
       → CallGoesOn (w.calls u) (v.calls u)
-  does_go_on (turn.TheVariants.Begin c) u under does = stay_goes w v s.thread o _ does u
+  does_go_on (turn.Begin c) u under does = stay_goes w v s.thread o _ does u
       (λ e. (under e).0 c refl)
-  does_go_on turn.TheVariants.Late u under does = stay_goes w v s.thread o _ does u (λ e. (under e).1 refl)
-  does_go_on turn.TheVariants.Go u under does = event_goes w v s.thread o does u (λ e. (under e).2)
-  does_go_on turn.TheVariants.Spin u under does = event_goes w v s.thread o does.goes u (λ e. (under e).2)
-  does_go_on turn.TheVariants.Ok u under does = event_goes w v s.thread o does.goes u (λ e. (under e).2)
-  does_go_on turn.TheVariants.Err u under does = event_goes w v s.thread o does.goes u (λ e. (under e).2)
+  does_go_on turn.Late u under does = stay_goes w v s.thread o _ does u (λ e. (under e).1 refl)
+  does_go_on turn.Go u under does = event_goes w v s.thread o does u (λ e. (under e).2)
+  does_go_on turn.Spin u under does = event_goes w v s.thread o does.goes u (λ e. (under e).2)
+  does_go_on turn.Ok u under does = event_goes w v s.thread o does.goes u (λ e. (under e).2)
+  does_go_on turn.Err u under does = event_goes w v s.thread o does.goes u (λ e. (under e).2)
 
   module _ (turned : Turned w s.thread s.turn o v) where
-    pub begins : (c : Call) → s.turn ≡ turn.TheVariants.Begin c → o ≢ outcome.TheVariants.NotNow
+    pub begins : (c : Call) → s.turn ≡ turn.Begin c → o ≢ outcome.NotNow
         → v.calls s.thread ≡ new_call (purpose_at w c) (rights_in w s.thread)
     begins c e told = elim turned [ inl d ↦ does_begin s.turn c e d.1 | inr r ↦ absurd (told r.1.0) ]
 
-    pub is_late : s.turn ≡ turn.TheVariants.Late → o ≢ outcome.TheVariants.NotNow → v.calls s.thread
+    pub is_late : s.turn ≡ turn.Late → o ≢ outcome.NotNow → v.calls s.thread
         ≡ record (w.calls s.thread) { late = true }
     is_late e told = elim turned [ inl d ↦ does_late s.turn e d.1 | inr r ↦ absurd (told r.1.0) ]
 
-    pub ends : (a : Answer) → o ≡ outcome.TheVariants.End a → v.calls s.thread ≡ no_call
+    pub ends : (a : Answer) → o ≡ outcome.End a → v.calls s.thread ≡ no_call
     ends a e = elim turned [
       | inl d ↦ does_end s.turn a e d.1
       | inr r ↦
-          absurd (let f : outcome.TheVariants.NotNow ≡ outcome.TheVariants.End a = sym r.1.0 ∙ e in cc)
+          absurd (let f : outcome.NotNow ≡ outcome.End a = sym r.1.0 ∙ e in cc)
     ]
 
     pub goes_on : (u : ℕ) → (u ≡ s.thread → IsUnderWay s o) → CallGoesOn (w.calls u) (v.calls u)

@@ -3,9 +3,9 @@ use Rattle.std.proofs.Common.{ℕ, true, Option, Some, None, ◌≡◌, inl, inr
 use Rattle.core_base.specs.declared.wants.Want.{Want}
 use Rattle.core_base.specs.declared.wants.Want.TheVariants.{Exclusive}
 use Rattle.spec_locks.specs.declared.calls.Turn.{Turn}
-use Rattle.spec_locks.specs.declared.calls.Turn as turn
-use Rattle.spec_locks.specs.declared.outcomes.Answer as answer
-use Rattle.spec_locks.specs.declared.outcomes.Outcome as outcome
+use Rattle.spec_locks.specs.declared.calls.Turn.TheVariants as turn
+use Rattle.spec_locks.specs.declared.outcomes.Answer.TheVariants as answer
+use Rattle.spec_locks.specs.declared.outcomes.Outcome.TheVariants as outcome
 use Rattle.spec_locks.specs.Locks.{Enter, Pend, Settle, Leave, Park, Aside, TakePicked, Wake, Late, Rollback}
 use Rattle.spec_locks.specs.Locks.{Rights, Rules, LockState, Needs, IsFree, one_if_thread}
 use Rattle.spec_locks.specs.Purposes.{Purpose, Releases, IsMadeOf, Timed, Try}
@@ -16,13 +16,13 @@ use Rattle.spec_locks.specs.Laws.{PossibleTurnsAreTaken, CallsTakeSteps, FairRel
 use Rattle.spec_locks.specs.Laws.{FreeMutexIsGot, trying}
 
 -- a deed is told, and never as a refusal
-told_done : (w v : LocksState) (t : ℕ) (x : Turn) → Does w t x outcome.TheVariants.NotNow v → ⊥
-told_done w v t (turn.TheVariants.Begin c) d = let told = d.told in cc
-told_done w v t turn.TheVariants.Spin d = d.goes.agrees
-told_done w v t turn.TheVariants.Late d = let told = d.told in cc
-told_done w v t turn.TheVariants.Go d = d.agrees
-told_done w v t turn.TheVariants.Ok d = d.goes.agrees
-told_done w v t turn.TheVariants.Err d = d.goes.agrees
+told_done : (w v : LocksState) (t : ℕ) (x : Turn) → Does w t x outcome.NotNow v → ⊥
+told_done w v t (turn.Begin c) d = let told = d.told in cc
+told_done w v t turn.Spin d = d.goes.agrees
+told_done w v t turn.Late d = let told = d.told in cc
+told_done w v t turn.Go d = d.agrees
+told_done w v t turn.Ok d = d.goes.agrees
+told_done w v t turn.Err d = d.goes.agrees
 
 pub possible_turns : PossibleTurnsAreTaken
 possible_turns w v s may h = elim h.1 [
@@ -32,8 +32,8 @@ possible_turns w v s may h = elim h.1 [
 
 pub calls_take_steps : CallsTakeSteps
 calls_take_steps w v t c a h = elim h.1 [
-  | inl d ↦ let told : outcome.TheVariants.End a ≡ outcome.TheVariants.Step = d.1.told in cc
-  | inr r ↦ let told : outcome.TheVariants.End a ≡ outcome.TheVariants.NotNow = r.1.0 in cc
+  | inl d ↦ let told : outcome.End a ≡ outcome.Step = d.1.told in cc
+  | inr r ↦ let told : outcome.End a ≡ outcome.NotNow = r.1.0 in cc
 ]
 
 fair_wakes_none : (w : LocksState) (t l : ℕ) (o : Option Purpose) → o ≡ Some (Releases l Exclusive true)
@@ -64,7 +64,7 @@ owners_exclude w t l x blocked may =
 -- a try of a free mutex does nothing but enter, and then its thread owns what it didn't
 no_try_fails : (v : LocksState) (e : Event) → MayHappen trying 0 e
     → ((l : ℕ) → v.locks l ≡ locks_after trying 0 e l) → ((l : ℕ) → v.kinds l ≡ trying.kinds l)
-    → Agrees 0 (going_on e (trying.calls 0)) (outcome.TheVariants.End answer.TheVariants.No) v → ⊥
+    → Agrees 0 (going_on e (trying.calls 0)) (outcome.End answer.No) v → ⊥
 no_try_fails v Nothing may led kinds agrees = let blocked = agrees.0.0 (rw (kinds 0) refl)
     in blocked.1 (rw (kinds 0, led 0) refl)
 no_try_fails v (AtLock l (Enter y)) may led kinds agrees = let here : l ≡ 0 = may.0.0 in let want : y
@@ -88,6 +88,6 @@ no_try_fails v (Moves c m all owned number) may led kinds agrees = let e = may.n
 pub free_mutex : FreeMutexIsGot
 free_mutex v h = elim h.1 [
   | inl d ↦ no_try_fails v d.1.event d.1.may d.1.locks h.0.kinds d.1.agrees
-  | inr r ↦ let told : outcome.TheVariants.End answer.TheVariants.No ≡ outcome.TheVariants.NotNow = r.1.0
+  | inr r ↦ let told : outcome.End answer.No ≡ outcome.NotNow = r.1.0
       in cc
 ]

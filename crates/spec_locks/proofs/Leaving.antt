@@ -6,7 +6,7 @@ use Rattle.std.proofs.lemmas.Bool.{cases_eq, cases_lt, eqb-true}
 use Rattle.std.proofs.lemmas.Bool.Decides.{nat_tests}
 use Rattle.std.specs.Prelude.{drop}
 use Rattle.spec_locks.specs.declared.calls.Turn.{Turn}
-use Rattle.spec_locks.specs.declared.calls.Turn as turn
+use Rattle.spec_locks.specs.declared.calls.Turn.TheVariants as turn
 use Rattle.spec_locks.specs.declared.outcomes.Outcome.{Outcome}
 use Rattle.spec_locks.specs.Condvars.{line_of, moved_of}
 use Rattle.spec_locks.specs.Locks as locks
@@ -200,12 +200,12 @@ module _ (w v : LocksState) (t : ℕ) (o : Outcome) (u l : ℕ) (some : 1 ≤ ti
         (by_event g.event refl g.may (subst (λ (s : LockState). times u s.queue ≡ 0) (g.locks l) none))
 
   does : (x : Turn) → Does w t x o v → times u (v.locks l).queue ≡ 0 → Leaves (v.locks l)
-  does (turn.TheVariants.Begin c) d none = same (v.locks l) (d.locks l) none
-  does turn.TheVariants.Late d none = same (v.locks l) (d.locks l) none
-  does turn.TheVariants.Go d none = goes d none
-  does turn.TheVariants.Spin d none = goes d.goes none
-  does turn.TheVariants.Ok d none = goes d.goes none
-  does turn.TheVariants.Err d none = goes d.goes none
+  does (turn.Begin c) d none = same (v.locks l) (d.locks l) none
+  does turn.Late d none = same (v.locks l) (d.locks l) none
+  does turn.Go d none = goes d none
+  does turn.Spin d none = goes d.goes none
+  does turn.Ok d none = goes d.goes none
+  does turn.Err d none = goes d.goes none
 
   pub leaves : (x : Turn) → Turned w t x o v → times u (v.locks l).queue ≡ 0 → Leaves (v.locks l)
   leaves x (inl d) none = does x d.1 none

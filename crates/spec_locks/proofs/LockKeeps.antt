@@ -95,7 +95,7 @@ shares : (r : Rules) (s : LockState) (t : ℕ) (right : Want) → IsLockState r 
     × NoWriter (without_owner t right s)
 shares r s t right c owns more = grind (arith, nat_tests, sharing_same r s t 0 s.shared c)
 
--- then the successor owns, or is pending
+-- the successor owns then, or is pending
 succeeds : (r : Rules) (s : LockState) (x : Queued) → IsLockState r s → NoWriter s → Knows r.sort x.want
     → x.want ≢ Shared → IsLockState r (succeeding x.want x.thread s)
 succeeds r s x c free knows more = grind (arith, nat_tests, no_aside r s c)

@@ -5,7 +5,7 @@ use Rattle.std.proofs.Common.{inl, inr}
 use Rattle.std.proofs.Common.{refl, sym, ◌∙◌, ap, subst, eqb-true}
 use Rattle.spec_locks.specs.declared.calls.Call.{Call}
 use Rattle.spec_locks.specs.declared.calls.Turn.{Turn}
-use Rattle.spec_locks.specs.declared.calls.Turn as turn
+use Rattle.spec_locks.specs.declared.calls.Turn.TheVariants as turn
 use Rattle.spec_locks.specs.declared.calls.Step.{Step}
 use Rattle.spec_locks.specs.declared.outcomes.Answer.{Answer}
 use Rattle.spec_locks.specs.declared.outcomes.Outcome.{Outcome}
@@ -249,14 +249,14 @@ module _ (w v : LocksState) (t : ℕ) (o : Outcome) (g : GoesOn w t o v) where
       }
 
 module _ (w v : LocksState) (s : Step) (o : Outcome) where
-  does_tell : (x : Turn) → ((c : Call) → x ≢ turn.TheVariants.Begin c) × (x ≢ turn.TheVariants.Late)
+  does_tell : (x : Turn) → ((c : Call) → x ≢ turn.Begin c) × (x ≢ turn.Late)
       × ((a : Answer) → o ≢ outcome.End a) → Does w s.thread x o v → Tells w v s.thread (v.calls s.thread)
-  does_tell (turn.TheVariants.Begin c) under d = absurd (under.0 c refl)
-  does_tell turn.TheVariants.Late under d = absurd (under.1 refl)
-  does_tell turn.TheVariants.Go under d = goes_tells w v s.thread o d under.2
-  does_tell turn.TheVariants.Spin under d = goes_tells w v s.thread o d.goes under.2
-  does_tell turn.TheVariants.Ok under d = goes_tells w v s.thread o d.goes under.2
-  does_tell turn.TheVariants.Err under d = goes_tells w v s.thread o d.goes under.2
+  does_tell (turn.Begin c) under d = absurd (under.0 c refl)
+  does_tell turn.Late under d = absurd (under.1 refl)
+  does_tell turn.Go under d = goes_tells w v s.thread o d under.2
+  does_tell turn.Spin under d = goes_tells w v s.thread o d.goes under.2
+  does_tell turn.Ok under d = goes_tells w v s.thread o d.goes under.2
+  does_tell turn.Err under d = goes_tells w v s.thread o d.goes under.2
 
   -- where nothing happens
   same_tells : v ≡ w → Tells w v s.thread (v.calls s.thread)

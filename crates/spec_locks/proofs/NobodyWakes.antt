@@ -3,7 +3,7 @@ use Rattle.std.proofs.Common.{ℕ, Bool, true, false, Option, Some, None, if◌t
 use Rattle.std.proofs.Common.{List, [], ◌∷◌, inl, inr, eqb-true, refl, sym, ◌∙◌, ap, subst, arith}
 use Rattle.std.proofs.lemmas.Bool.{leb-true}
 use Rattle.spec_locks.specs.declared.calls.Turn.{Turn}
-use Rattle.spec_locks.specs.declared.calls.Turn as turn
+use Rattle.spec_locks.specs.declared.calls.Turn.TheVariants as turn
 use Rattle.spec_locks.specs.declared.outcomes.Outcome.{Outcome}
 use Rattle.spec_locks.specs.declared.outcomes.Outcome.TheVariants as outcome
 use Rattle.spec_locks.specs.Condvars.{moved_of}
@@ -180,12 +180,12 @@ module _ (w v : LocksState) (a : ℕ) where
       either true f g = kept (subst (λ j. Unnotified (w.calls j)) (eqb-true t a f) none) g
 
   does : (x : Turn) (o : Outcome) → Does w a x o v → Told
-  does (turn.TheVariants.Begin c) o d = stays _ o d (λ none h. h)
-  does turn.TheVariants.Go o d = goes o d
-  does turn.TheVariants.Spin o d = goes o d.goes
-  does turn.TheVariants.Late o d = stays _ o d (λ none. none)
-  does turn.TheVariants.Ok o d = goes o d.goes
-  does turn.TheVariants.Err o d = goes o d.goes
+  does (turn.Begin c) o d = stays _ o d (λ none h. h)
+  does turn.Go o d = goes o d
+  does turn.Spin o d = goes o d.goes
+  does turn.Late o d = stays _ o d (λ none. none)
+  does turn.Ok o d = goes o d.goes
+  does turn.Err o d = goes o d.goes
 
 pub nobody_wakes : OfEachStep NobodyWakesByItself
 nobody_wakes w v s o all step = elim step.1 [

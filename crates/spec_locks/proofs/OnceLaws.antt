@@ -86,9 +86,9 @@ done_stays r case s t n e = elim (phase_by r case s t) [
 
 -- at a `Once` no thread that tries again passes a turn on
 debt_of : (sort : Sort) (d : Role) → sort ≡ Once → IsDebtorRole sort d → (d.wakes ≡ Some Main)
-    ⊎ (d.covers ≡ true)
+    ⊎ (d.owes_taken ≡ true)
 debt_of sort d e (inl wakes) = inl wakes
-debt_of sort d e (inr (inl covers)) = inr covers
+debt_of sort d e (inr (inl owes_taken)) = inr owes_taken
 debt_of sort d e (inr (inr again)) = absurd (grind (arith, e))
 
 pub callers : CallersAreLookedAfter

@@ -4,11 +4,11 @@ use Rattle.std.proofs.Common.{inl, inr, refl, sym, ◌∙◌, ap, subst}
 use Rattle.std.proofs.lemmas.Bool.{eqb-true}
 use Rattle.core_base.specs.declared.wants.Want.{Want}
 use Rattle.spec_locks.specs.declared.calls.Turn.{Turn}
-use Rattle.spec_locks.specs.declared.calls.Turn as turn
+use Rattle.spec_locks.specs.declared.calls.Turn.TheVariants as turn
 use Rattle.spec_locks.specs.declared.outcomes.OnceState.{OnceState}
 use Rattle.spec_locks.specs.declared.outcomes.OnceState.TheVariants as once_state
 use Rattle.spec_locks.specs.declared.outcomes.Outcome.{Outcome}
-use Rattle.spec_locks.specs.declared.outcomes.Outcome as outcome
+use Rattle.spec_locks.specs.declared.outcomes.Outcome.TheVariants as outcome
 use Rattle.spec_locks.specs.Condvars.{moved_of}
 use Rattle.spec_locks.specs.Locks.{LockState, OfOnce, after_case, left_after, putting}
 use Rattle.spec_locks.specs.Onces.{Phase, New, Poisoned, InProgress, Done, OnceCase, Start, Finish, Fail}
@@ -77,7 +77,7 @@ module _ (w : LocksState) (t : ℕ) (state : OnceState) where
   start_told l forced Done e may told = absurd may
 
   start_at : (l : ℕ) (b : Bool) → MayHappen w t (AtLock l (OfOnce (Start b)))
-      → outcome.TheVariants.Closure state ≡ outcome.TheVariants.Closure
+      → outcome.Closure state ≡ outcome.Closure
       (Rattle.spec_locks.specs.Runs.state_told (w.locks l).phase) → Starts
   start_at l b may h = let call = starts_for (w.calls t).purpose refl may in (
     l,
@@ -98,30 +98,30 @@ module _ (w : LocksState) (t : ℕ) (state : OnceState) where
           (λ x c. λ f. cc) may.0 in
           absurd (let f : q ≡ CallsOnce l call.0 = call.1 in cc)
 
-  by_event : (e : Event) → MayHappen w t e → Begins w e (outcome.TheVariants.Closure state) → Starts
+  by_event : (e : Event) → MayHappen w t e → Begins w e (outcome.Closure state) → Starts
   by_event (AtLock l (OfOnce (Start b))) may h = start_at l b may h
   by_event e may h = absurd h
 
 module _ (w v : LocksState) (t : ℕ) (o : Outcome) (state : OnceState)
-    (told : o ≡ outcome.TheVariants.Closure state) where
+    (told : o ≡ outcome.Closure state) where
   goes_starts : GoesOn w t o v → Starts w t state
   goes_starts g = by_event w t state g.event g.may (subst (Begins w g.event) told g.begins)
 
-  not_step : o ≡ outcome.TheVariants.Step → ⊥
-  not_step e = let f : outcome.TheVariants.Step ≡ outcome.TheVariants.Closure state = sym e ∙ told in cc
+  not_step : o ≡ outcome.Step → ⊥
+  not_step e = let f : outcome.Step ≡ outcome.Closure state = sym e ∙ told in cc
 
   does_start : (x : Turn) → Does w t x o v → Starts w t state
-  does_start (turn.TheVariants.Begin c) d = absurd (not_step d.told)
-  does_start turn.TheVariants.Late d = absurd (not_step d.told)
-  does_start turn.TheVariants.Go d = goes_starts d
-  does_start turn.TheVariants.Spin d = goes_starts d.goes
-  does_start turn.TheVariants.Ok d = goes_starts d.goes
-  does_start turn.TheVariants.Err d = goes_starts d.goes
+  does_start (turn.Begin c) d = absurd (not_step d.told)
+  does_start turn.Late d = absurd (not_step d.told)
+  does_start turn.Go d = goes_starts d
+  does_start turn.Spin d = goes_starts d.goes
+  does_start turn.Ok d = goes_starts d.goes
+  does_start turn.Err d = goes_starts d.goes
 
   pub starts : (x : Turn) → Turned w t x o v → Starts w t state
   starts x (inl d) = does_start x d.1
   starts x (inr r) =
-      absurd (let f : outcome.TheVariants.NotNow ≡ outcome.TheVariants.Closure state = sym r.1.0 ∙ told in cc)
+      absurd (let f : outcome.NotNow ≡ outcome.Closure state = sym r.1.0 ∙ told in cc)
 
 -- ---------------------------------------------------------------- a run ends
 
@@ -148,17 +148,17 @@ module _ (w v : LocksState) (t : ℕ) (o : Outcome) (full : ℕ → Bool) (safe 
       l).phase) (same_number l)
       ∙ leaves (w.locks l)
 
-  done_then : (x : Turn) → x ≡ turn.TheVariants.Ok → Does w t x o v → (v.locks l).phase ≡ Done
-  done_then turn.TheVariants.Ok e d = after_end Finish (λ x b. λ f. cc) Done (λ s. refl) d.goes d.lock d.ends
+  done_then : (x : Turn) → x ≡ turn.Ok → Does w t x o v → (v.locks l).phase ≡ Done
+  done_then turn.Ok e d = after_end Finish (λ x b. λ f. cc) Done (λ s. refl) d.goes d.lock d.ends
   done_then x e d = absurd cc
 
-  poisoned_then : (x : Turn) → x ≡ turn.TheVariants.Err → Does w t x o v → (v.locks l).phase ≡ Poisoned
-  poisoned_then turn.TheVariants.Err e d =
+  poisoned_then : (x : Turn) → x ≡ turn.Err → Does w t x o v → (v.locks l).phase ≡ Poisoned
+  poisoned_then turn.Err e d =
       after_end Fail (λ x b. λ f. cc) Poisoned (λ s. refl) d.goes d.lock d.ends
   poisoned_then x e d = absurd cc
 
-  pub closes : (x : Turn) → Turned w t x o v → o ≢ outcome.TheVariants.NotNow
-      → (x ≡ turn.TheVariants.Ok → (v.locks l).phase ≡ Done) ×
-      (x ≡ turn.TheVariants.Err → (v.locks l).phase ≡ Poisoned)
+  pub closes : (x : Turn) → Turned w t x o v → o ≢ outcome.NotNow
+      → (x ≡ turn.Ok → (v.locks l).phase ≡ Done) ×
+      (x ≡ turn.Err → (v.locks l).phase ≡ Poisoned)
   closes x (inl d) told = ((λ e. done_then x e d.1), (λ e. poisoned_then x e d.1))
   closes x (inr r) told = absurd (told r.1.0)

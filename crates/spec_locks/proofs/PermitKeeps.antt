@@ -75,7 +75,7 @@ module _ (r : Rules) (s : Site) (t : ℕ) (lt : t < length s.lock.shared) (h : I
     turns : (v : Site) (e : Role) → Changed s.role v.role t e → length v.lock.shared ≡ length s.lock.shared
         → (v.lock.queue ≢ [] → (r.limit ≤ readers v.lock) ⊎ ((s.lock.queue ≢ [])
         × (readers s.lock + debt (s.role t) ≤ readers v.lock + debt e)))
-        → ((u : ℕ) → u ≢ t → 1 ≤ standing u v.lock → 1 ≤ standing u s.lock) → e.sets ≡ false → HasPermits r v
+        → ((u : ℕ) → u ≢ t → 1 ≤ standing u v.lock → 1 ≤ standing u s.lock) → e.bit_pending ≡ false → HasPermits r v
     turns v e changed same enough stood unset = record {
       enough = λ left. elim (enough left) [
         | inl k ↦ omega arith
@@ -113,7 +113,7 @@ module _ (r : Rules) (s : Site) (t : ℕ) (sort : r.sort ≡ Semaphore) (lt : t 
       (a, b.0, b.1, no_aside r s.lock h.state b.0)
 
   -- t does something else, and the lock stays
-  does : (e : Role) (pk ap : Bool) → (s.lock.queue ≢ [] → debt (s.role t) ≤ debt e) → e.sets ≡ false
+  does : (e : Role) (pk ap : Bool) → (s.lock.queue ≢ [] → debt (s.role t) ≤ debt e) → e.bit_pending ≡ false
       → HasPermits r (record s {
         parked = pk;
         aside_parked = ap;
@@ -131,7 +131,7 @@ module _ (r : Rules) (s : Site) (t : ℕ) (sort : r.sort ≡ Semaphore) (lt : t 
       ⊎ ((s.lock.queue ≢ []) × (readers s.lock + debt (s.role t) ≤ readers (locks.after_case r c s.lock t)
       + debt (case_role r.sort s (locks.after_case r c s.lock t) c (s.role t)))))
       → ((u : ℕ) → u ≢ t → 1 ≤ standing u (locks.after_case r c s.lock t) → 1 ≤ standing u s.lock)
-      → (case_role r.sort s (locks.after_case r c s.lock t) c (s.role t)).sets ≡ false
+      → (case_role r.sort s (locks.after_case r c s.lock t) c (s.role t)).bit_pending ≡ false
       → HasPermits r (after_deed r (Case c) s t)
   acts c same enough stood unset = turns r s t lt h p (done r c s t (locks.after_case r c s.lock t)) _
       (put_changed s.role t _) same enough stood unset
@@ -176,7 +176,7 @@ module _ (r : Rules) (s : Site) (t : ℕ) (sort : r.sort ≡ Semaphore) (lt : t 
   ]
 
   unset_left : (so : Sort) → so ≡ Semaphore
-      → (case_role so s (locks.without_owner t Shared s.lock) (Leave Shared) (s.role t)).sets ≡ false
+      → (case_role so s (locks.without_owner t Shared s.lock) (Leave Shared) (s.role t)).bit_pending ≡ false
   unset_left Semaphore e = p.unset t
   unset_left Mutex e = p.unset t
   unset_left Normal e = p.unset t
@@ -239,20 +239,20 @@ module _ (r : Rules) (s : Site) (t : ℕ) (sort : r.sort ≡ Semaphore) (lt : t 
   wakened_one (Some a) d c e = grind (arith, nat_tests)
 
   left_few : (u : ℕ) → debt (s.role u) ≤ debt (putting s.role t (leaves (s.role t)) u)
-      + (if u == t then bit (s.role t).covers else 0)
+      + (if u == t then bit (s.role t).owes_taken else 0)
   left_few u = grind (arith, nat_tests)
 
-  unset_out : (u : ℕ) → (v.role u).sets ≡ false
+  unset_out : (u : ℕ) → (v.role u).bit_pending ≡ false
   unset_out u = grind (arith, nat_tests, p.unset u)
 
   known_out : (u : ℕ) → 1 ≤ standing u v.lock → u < length s.lock.shared
   known_out u one = p.known u (let k = kept_few t (s.lock.taken u) in omega arith)
 
-  same_debts : (s.role t).covers ≡ false → debts s ≤ debts v
+  same_debts : (s.role t).owes_taken ≡ false → debts s ≤ debts v
   same_debts e = total_less (length s.lock.shared) (λ u. debt (s.role u)) (λ u. debt (v.role u)) (λ u.
       let a = wakened_more (s.lock.taken u) (putting s.role t (leaves (s.role t)) u) in
       let b = left_few u in
-      let z : (if u == t then bit (s.role t).covers else 0) ≡ 0 = grind (arith, e) in
+      let z : (if u == t then bit (s.role t).owes_taken else 0) ≡ 0 = grind (arith, e) in
       omega arith)
 
   in_hand : (x : ℕ) → counts_taken r.sort t (s.lock.taken x) ≡ true → 1 ≤ standing x s.lock
@@ -268,7 +268,7 @@ module _ (r : Rules) (s : Site) (t : ℕ) (sort : r.sort ≡ Semaphore) (lt : t 
   moved_debts x c = total_moved (length s.lock.shared) (λ u. debt (s.role u)) (λ u. debt (v.role u)) t x lt
       (p.known x (in_hand x c)) (λ u. each u)
     where
-      few : (u : ℕ) → (if u == t then bit (s.role t).covers else 0) ≤ one_at t u
+      few : (u : ℕ) → (if u == t then bit (s.role t).owes_taken else 0) ≤ one_at t u
       few u = grind arith
 
       each : (u : ℕ) → debt (s.role u) + one_at x u ≤ debt (v.role u) + one_at t u
@@ -289,13 +289,13 @@ module _ (r : Rules) (s : Site) (t : ℕ) (sort : r.sort ≡ Semaphore) (lt : t 
             omega arith
       ]
 
-  out_debts : s.lock.queue ≢ [] → (b : Bool) → (s.role t).covers ≡ b → debts s ≤ debts v
+  out_debts : s.lock.queue ≢ [] → (b : Bool) → (s.role t).owes_taken ≡ b → debts s ≤ debts v
   out_debts left false e = same_debts e
   out_debts left true e = let one = (h.covered t e).2 left in moved_debts one.0 one.1
 
   outs : HasPermits r v
   outs = record {
-    enough = λ left. let a = p.enough left in let b = out_debts left (s.role t).covers refl in omega arith;
+    enough = λ left. let a = p.enough left in let b = out_debts left (s.role t).owes_taken refl in omega arith;
     unset = unset_out;
     known = known_out;
   }
@@ -334,5 +334,5 @@ looked_after r s p left free = by_debt one.0 one.1
     one = some_of (length s.lock.shared) (λ t. debt (s.role t)) (let a = p.enough left in omega arith)
 
     by_debt : (t : ℕ) → 1 ≤ debt (s.role t) → (t : ℕ) × (((s.role t).wakes ≡ Some Main)
-        ⊎ (((s.role t).covers ≡ true) ⊎ ((s.role t).retries ≢ None)))
+        ⊎ (((s.role t).owes_taken ≡ true) ⊎ ((s.role t).retries ≢ None)))
     by_debt t k = (t, grind arith)

@@ -9,7 +9,7 @@ use Rattle.std.specs.Prelude.{not, filter, take, drop, map}
 use Rattle.core_base.specs.declared.wants.Want.{Want}
 use Rattle.core_base.specs.declared.wants.Want.TheVariants.{Exclusive, Upgradable, Shared, Wait, CallOnce}
 use Rattle.spec_locks.specs.declared.calls.Turn.{Turn}
-use Rattle.spec_locks.specs.declared.calls.Turn as turn
+use Rattle.spec_locks.specs.declared.calls.Turn.TheVariants as turn
 use Rattle.spec_locks.specs.declared.calls.Step.{Step}
 use Rattle.spec_locks.specs.declared.outcomes.Outcome.{Outcome}
 use Rattle.spec_locks.specs.Onces.{OnceCase, Start, Finish, Fail, Rest, TakeAll}
@@ -259,12 +259,12 @@ module _ (w v : LocksState) (t : ℕ) (o : Outcome) where
   by_stay c s l = same_so (w.locks l).queue _ (ap (λ (k : LockState). k.queue) (s.locks l))
 
   by_turn : (x : Turn) → Does w t x o v → QueuesKeepOrder w v
-  by_turn (turn.TheVariants.Begin c) d = by_stay _ d
-  by_turn turn.TheVariants.Go d = by_event d
-  by_turn turn.TheVariants.Spin d = by_event d.goes
-  by_turn turn.TheVariants.Late d = by_stay _ d
-  by_turn turn.TheVariants.Ok d = by_event d.goes
-  by_turn turn.TheVariants.Err d = by_event d.goes
+  by_turn (turn.Begin c) d = by_stay _ d
+  by_turn turn.Go d = by_event d
+  by_turn turn.Spin d = by_event d.goes
+  by_turn turn.Late d = by_stay _ d
+  by_turn turn.Ok d = by_event d.goes
+  by_turn turn.Err d = by_event d.goes
 
   turned_orders : (x : Turn) → Turned w t x o v → QueuesKeepOrder w v
   turned_orders x (inl d) = by_turn x d.1

@@ -4,12 +4,12 @@ use Rattle.std.proofs.Common.{◌⊎◌, inl, inr, List, [], ◌∷◌, refl, sy
 use Rattle.std.proofs.lemmas.Bool.{cases_eq}
 use Rattle.spec_locks.specs.declared.calls.Call.{Call}
 use Rattle.spec_locks.specs.declared.calls.Turn.{Turn}
-use Rattle.spec_locks.specs.declared.calls.Turn as turn
+use Rattle.spec_locks.specs.declared.calls.Turn.TheVariants as turn
 use Rattle.spec_locks.specs.declared.calls.Step.{Step}
 use Rattle.spec_locks.specs.declared.outcomes.Answer.{Answer}
 use Rattle.spec_locks.specs.declared.outcomes.Answer.TheVariants as answer
 use Rattle.spec_locks.specs.declared.outcomes.Outcome.{Outcome}
-use Rattle.spec_locks.specs.declared.outcomes.Outcome as outcome
+use Rattle.spec_locks.specs.declared.outcomes.Outcome.TheVariants as outcome
 use Rattle.spec_locks.specs.Onces.{Start}
 use Rattle.spec_locks.specs.Condvars.{moved_of}
 use Rattle.spec_locks.specs.Locks as locks
@@ -159,7 +159,7 @@ module _ (w v : LocksState) (c t u : ℕ) (now : IsToBeReached w c t u) (stands 
           (woken_recalls x g.event (w.calls u) g.may h)
     ]
       where
-        not_over : u ≡ x → (a : Answer) → o ≢ outcome.TheVariants.End a
+        not_over : u ≡ x → (a : Answer) → o ≢ outcome.End a
         not_over e a f = busy (ap (λ (k : CallState). k.purpose) (ap v.calls e ∙ own_then w v x o g
             ∙ ap (λ p. unless_ended p (woken w x g.event x (going_on g.event (w.calls x)))) f))
 
@@ -183,16 +183,16 @@ module _ (w v : LocksState) (c t u : ℕ) (now : IsToBeReached w c t u) (stands 
     by_turn : (x : ℕ) (y : Turn) (o : Outcome) → (v.calls u).purpose ≢ None
         → Rattle.spec_locks.specs.Runs.MayTurn w x y → Does w x y o v → Recalled w c t (w.calls u).recalls
         → Recalled w c t (v.calls u).recalls
-    by_turn x (turn.TheVariants.Begin call) o busy may d h =
+    by_turn x (turn.Begin call) o busy may d h =
         by_stay x o _ (λ e. absurd (let f : ◌≡◌ {A = Option Purpose} None (Some (Notifies c true)) =
         sym may.idle ∙ ap (λ k. (w.calls k).purpose) (sym e) ∙ now.notifies in cc)) d h
-    by_turn x turn.TheVariants.Late o busy may d h =
+    by_turn x turn.Late o busy may d h =
         by_stay x o _ (λ e. ap (λ k. (w.calls k).recalls) (sym e))
         d h
-    by_turn x turn.TheVariants.Go o busy may d h = by_event x o busy d h
-    by_turn x turn.TheVariants.Spin o busy may d h = by_event x o busy d.goes h
-    by_turn x turn.TheVariants.Ok o busy may d h = by_event x o busy d.goes h
-    by_turn x turn.TheVariants.Err o busy may d h = by_event x o busy d.goes h
+    by_turn x turn.Go o busy may d h = by_event x o busy d h
+    by_turn x turn.Spin o busy may d h = by_event x o busy d.goes h
+    by_turn x turn.Ok o busy may d h = by_event x o busy d.goes h
+    by_turn x turn.Err o busy may d h = by_event x o busy d.goes h
 
 -- the waiter's call goes on, while it stands there
 waits_on : (w v : LocksState) (s : Step) (o : Outcome) (t c : ℕ) → IsStep w s o v
@@ -208,8 +208,8 @@ waits_on w v s o t c step before now stood stands = by_turn (cases_eq t s.thread
     called_then : (v.calls t).purpose ≢ None
     called_then e = subst (λ p. MayWait p c) e (now c (omega arith))
 
-    going : t ≡ s.thread → (x : Turn) → ((call : Call) → x ≢ turn.TheVariants.Begin call) → x
-        ≢ turn.TheVariants.Late → s.turn ≡ x → (v.calls t).purpose ≡ (w.calls t).purpose
+    going : t ≡ s.thread → (x : Turn) → ((call : Call) → x ≢ turn.Begin call) → x
+        ≢ turn.Late → s.turn ≡ x → (v.calls t).purpose ≡ (w.calls t).purpose
     going e x not_begin not_late is = (goes_on w v s o step.1 t (λ f. (
       (λ call g. not_begin call (sym is ∙ g)),
       (λ g. not_late (sym is ∙ g)),
@@ -218,14 +218,14 @@ waits_on w v s o t c step before now stood stands = by_turn (cases_eq t s.thread
 
     under : t ≡ s.thread → (x : Turn) → s.turn ≡ x → Turned w s.thread x o v → (v.calls t).purpose
         ≡ (w.calls t).purpose
-    under e (turn.TheVariants.Begin call) is (inl d) =
+    under e (turn.Begin call) is (inl d) =
         absurd (called (ap (λ k. (w.calls k).purpose) e ∙ d.0.idle))
-    under e turn.TheVariants.Late is (inl d) = ap (λ (k : CallState). k.purpose) (ap v.calls e
+    under e turn.Late is (inl d) = ap (λ (k : CallState). k.purpose) (ap v.calls e
         ∙ stay_own w v s.thread o _ d.1) ∙ ap (λ k. (w.calls k).purpose) (sym e)
-    under e turn.TheVariants.Go is (inl d) = going e turn.TheVariants.Go (λ call g. cc) (λ g. cc) is
-    under e turn.TheVariants.Spin is (inl d) = going e turn.TheVariants.Spin (λ call g. cc) (λ g. cc) is
-    under e turn.TheVariants.Ok is (inl d) = going e turn.TheVariants.Ok (λ call g. cc) (λ g. cc) is
-    under e turn.TheVariants.Err is (inl d) = going e turn.TheVariants.Err (λ call g. cc) (λ g. cc) is
+    under e turn.Go is (inl d) = going e turn.Go (λ call g. cc) (λ g. cc) is
+    under e turn.Spin is (inl d) = going e turn.Spin (λ call g. cc) (λ g. cc) is
+    under e turn.Ok is (inl d) = going e turn.Ok (λ call g. cc) (λ g. cc) is
+    under e turn.Err is (inl d) = going e turn.Err (λ call g. cc) (λ g. cc) is
     under e x is (inr r) = ap (λ (k : LocksState). (k.calls t).purpose) r.1.1
 
     by_turn : (t ≡ s.thread) ⊎ (t ≢ s.thread) → (v.calls t).purpose ≡ (w.calls t).purpose
@@ -292,13 +292,13 @@ module _ (c t u : ℕ) where
 pub notifications_reach : NotificationsReach
 notifications_reach c t u w v z ss os s a now blank run is step sort stands safe =
     let there = run_recalls c t u ss os w v now (subst (Recalled w c t) (sym blank) tt) run in
-    let g : GoesOn v u (outcome.TheVariants.End a) z = subst (λ k. GoesOn v k (outcome.TheVariants.End a) z)
-    is (ended v z s.thread (outcome.TheVariants.End a) s.turn a refl step.1) in
+    let g : GoesOn v u (outcome.End a) z = subst (λ k. GoesOn v k (outcome.End a) z)
+    is (ended v z s.thread (outcome.End a) s.turn a refl step.1) in
     let kept = recalls v z u g.event g.may in
     let holds : AnswerHolds (Some (Notifies c true)) z u (going_on g.event (v.calls u)) a =
     subst (λ p. AnswerHolds p z u (going_on g.event (v.calls u)) a) (kept.purpose ∙ there.0.notifies)
-    (answered v z u (outcome.TheVariants.End a) a refl g) in
-    by_answer c t u v z there.0 (safe.1.shown c sort) stands (waits_on v z s (outcome.TheVariants.End a) t c
+    (answered v z u (outcome.End a) a refl g) in
+    by_answer c t u v z there.0 (safe.1.shown c sort) stands (waits_on v z s (outcome.End a) t c
     step (there.0.safe.1.waiting t) (safe.1.waiting t) there.0.stands stands)
     (going_on g.event (v.calls u)) a (own_recalls v z c t u there.0 stands g.event g.may g.locks there.1)
     holds

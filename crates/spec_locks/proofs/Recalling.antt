@@ -4,9 +4,9 @@ use Rattle.std.proofs.Common.{inr, List, [], ◌∷◌, length, refl, sym, ◌�
 use Rattle.std.proofs.lemmas.Bool.{cases_eq}
 use Rattle.std.specs.Prelude.{drop}
 use Rattle.spec_locks.specs.declared.calls.Turn.{Turn}
-use Rattle.spec_locks.specs.declared.calls.Turn as turn
+use Rattle.spec_locks.specs.declared.calls.Turn.TheVariants as turn
 use Rattle.spec_locks.specs.declared.outcomes.Outcome.{Outcome}
-use Rattle.spec_locks.specs.declared.outcomes.Outcome as outcome
+use Rattle.spec_locks.specs.declared.outcomes.Outcome.TheVariants as outcome
 use Rattle.spec_locks.specs.Condvars.{moved_of}
 use Rattle.spec_locks.specs.Locks.{LockState, Queued, Mutex, Condvar, Enter, Pend, Settle, Leave}
 use Rattle.spec_locks.specs.Locks.{Convert, Park, Aside, TakeFirst, TakeAside, TakePicked, Wake, HandOff}
@@ -253,18 +253,18 @@ module _ (w v : LocksState) where
     answer_recalls = truly w v t (going_on g.event (w.calls t)) own_notes own_fails
 
     ended_fails : (x : Outcome) (c : CallState) → Fails w v t c.failed → Fails w v t (unless_ended x c).failed
-    ended_fails (outcome.TheVariants.End a) c h = λ e. absurd cc
-    ended_fails outcome.TheVariants.NotNow c h = h
-    ended_fails outcome.TheVariants.Step c h = h
-    ended_fails outcome.TheVariants.Sleep c h = h
-    ended_fails (outcome.TheVariants.Closure state) c h = h
+    ended_fails (outcome.End a) c h = λ e. absurd cc
+    ended_fails outcome.NotNow c h = h
+    ended_fails outcome.Step c h = h
+    ended_fails outcome.Sleep c h = h
+    ended_fails (outcome.Closure state) c h = h
 
     ended_so : (x : Outcome) (c : CallState) → Notes w v t c.recalls → Notes w v t (unless_ended x c).recalls
-    ended_so (outcome.TheVariants.End a) c h = blank t
-    ended_so outcome.TheVariants.NotNow c h = h
-    ended_so outcome.TheVariants.Step c h = h
-    ended_so outcome.TheVariants.Sleep c h = h
-    ended_so (outcome.TheVariants.Closure state) c h = h
+    ended_so (outcome.End a) c h = blank t
+    ended_so outcome.NotNow c h = h
+    ended_so outcome.Step c h = h
+    ended_so outcome.Sleep c h = h
+    ended_so (outcome.Closure state) c h = h
 
     own_goes : RecallsTruly w v t (unless_ended o (woken w t g.event t (going_on g.event (w.calls t))))
     own_goes = truly w v t _ (ended_so o _ (woken_so t g.event t _ own_notes))
@@ -299,13 +299,13 @@ module _ (w v : LocksState) where
     ]
 
     does : (x : Turn) → Does w t x o v → (u : ℕ) → RecallsTruly w v u (v.calls u)
-    does (turn.TheVariants.Begin c) d u =
+    does (turn.Begin c) d u =
         stays _ (truly w v t _ (blank t) (λ e. absurd (let f : false ≡ true = e in cc))) d u
-    does turn.TheVariants.Late d u = stays _ (truly w v t _ (stays_so t _ refl) (λ e. inl e)) d u
-    does turn.TheVariants.Go d u = goes t o d u
-    does turn.TheVariants.Spin d u = goes t o d.goes u
-    does turn.TheVariants.Ok d u = goes t o d.goes u
-    does turn.TheVariants.Err d u = goes t o d.goes u
+    does turn.Late d u = stays _ (truly w v t _ (stays_so t _ refl) (λ e. inl e)) d u
+    does turn.Go d u = goes t o d u
+    does turn.Spin d u = goes t o d.goes u
+    does turn.Ok d u = goes t o d.goes u
+    does turn.Err d u = goes t o d.goes u
 
     pub recalls_truly : (x : Turn) → Turned w t x o v → (u : ℕ) → RecallsTruly w v u (v.calls u)
     recalls_truly x (inl d) u = does x d.1 u

@@ -189,7 +189,7 @@ module _ (r : Rules) (s : LockState) (t u : ℕ) (state : IsLockState r s) (ne :
 
 -- ------------------------------------------------------------ rights of each lock, where one lock's are told
 
--- they are these at the lock l, and elsewhere those
+-- one list at the lock l, and another elsewhere
 abbrev pub AreAt : (ℕ → Rights) → (ℕ → Rights) → ℕ → Rights → Type 0
 AreAt rights g l y = (k : ℕ) → g k ≡ putting rights l y k
 

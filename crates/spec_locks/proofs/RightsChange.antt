@@ -7,7 +7,7 @@ use Rattle.std.specs.Prelude.{◌&&◌, slice_index}
 use Rattle.core_base.specs.declared.wants.Want.{Want}
 use Rattle.core_base.specs.declared.wants.Want.TheVariants.{Exclusive, Upgradable, Shared}
 use Rattle.spec_locks.specs.declared.calls.Turn.{Turn}
-use Rattle.spec_locks.specs.declared.calls.Turn as turn
+use Rattle.spec_locks.specs.declared.calls.Turn.TheVariants as turn
 use Rattle.spec_locks.specs.declared.outcomes.Outcome.{Outcome}
 use Rattle.spec_locks.specs.Condvars.{moved_of}
 use Rattle.spec_locks.specs.Locks as locks
@@ -274,12 +274,12 @@ module _ (w v : LocksState) (t : ℕ) (o : Outcome) (all : AreLockStates w)
   ]
 
   does_rights : (x : Turn) → Does w t x o v → (u l : ℕ) → (rights_in v u l ≡ rights_in w u l) ⊎ Changes u l
-  does_rights (turn.TheVariants.Begin c) d u l = inl (ap (λ (s : LockState). rights_of s u) (d.locks l))
-  does_rights turn.TheVariants.Late d u l = inl (ap (λ (s : LockState). rights_of s u) (d.locks l))
-  does_rights turn.TheVariants.Go d u l = goes_rights d u l
-  does_rights turn.TheVariants.Spin d u l = goes_rights d.goes u l
-  does_rights turn.TheVariants.Ok d u l = goes_rights d.goes u l
-  does_rights turn.TheVariants.Err d u l = goes_rights d.goes u l
+  does_rights (turn.Begin c) d u l = inl (ap (λ (s : LockState). rights_of s u) (d.locks l))
+  does_rights turn.Late d u l = inl (ap (λ (s : LockState). rights_of s u) (d.locks l))
+  does_rights turn.Go d u l = goes_rights d u l
+  does_rights turn.Spin d u l = goes_rights d.goes u l
+  does_rights turn.Ok d u l = goes_rights d.goes u l
+  does_rights turn.Err d u l = goes_rights d.goes u l
 
   pub rights_change : (x : Turn) → Turned w t x o v → (u l : ℕ)
       → (rights_in v u l ≡ rights_in w u l) ⊎ Changes u l

@@ -3,7 +3,7 @@ use Rattle.std.proofs.Common.{ℕ, Bool, true, false, Option, Some, None, if◌t
 use Rattle.std.proofs.Common.{List, [], ◌∷◌, refl, sym, subst}
 use Rattle.std.proofs.lemmas.Bool.{eqb-true}
 use Rattle.spec_locks.specs.declared.calls.Turn.{Turn}
-use Rattle.spec_locks.specs.declared.calls.Turn as turn
+use Rattle.spec_locks.specs.declared.calls.Turn.TheVariants as turn
 use Rattle.spec_locks.specs.declared.calls.Step.{Step}
 use Rattle.spec_locks.specs.declared.outcomes.Outcome.{Outcome}
 use Rattle.spec_locks.specs.Locks.{LockCase, Needs, IsLockState, left_after, putting}
@@ -57,12 +57,12 @@ stays_keeps w v t c o kinds s all l = rw (kinds l, s.locks l) (all l)
 
 does_keeps : (w v : LocksState) (t : ℕ) (x : Turn) (o : Outcome) → ((l : ℕ) → v.kinds l ≡ w.kinds l)
     → Does w t x o v → AreLockStates w → AreLockStates v
-does_keeps w v t (turn.TheVariants.Begin c) o kinds d all = stays_keeps w v t _ o kinds d all
-does_keeps w v t turn.TheVariants.Go o kinds d all = goes_keeps w v t o kinds d all
-does_keeps w v t turn.TheVariants.Spin o kinds d all = goes_keeps w v t o kinds d.goes all
-does_keeps w v t turn.TheVariants.Late o kinds d all = stays_keeps w v t _ o kinds d all
-does_keeps w v t turn.TheVariants.Ok o kinds d all = goes_keeps w v t o kinds d.goes all
-does_keeps w v t turn.TheVariants.Err o kinds d all = goes_keeps w v t o kinds d.goes all
+does_keeps w v t (turn.Begin c) o kinds d all = stays_keeps w v t _ o kinds d all
+does_keeps w v t turn.Go o kinds d all = goes_keeps w v t o kinds d all
+does_keeps w v t turn.Spin o kinds d all = goes_keeps w v t o kinds d.goes all
+does_keeps w v t turn.Late o kinds d all = stays_keeps w v t _ o kinds d all
+does_keeps w v t turn.Ok o kinds d all = goes_keeps w v t o kinds d.goes all
+does_keeps w v t turn.Err o kinds d all = goes_keeps w v t o kinds d.goes all
 
 turned_keeps : (w v : LocksState) (t : ℕ) (x : Turn) (o : Outcome) → ((l : ℕ) → v.kinds l ≡ w.kinds l)
     → Turned w t x o v → AreLockStates w → AreLockStates v

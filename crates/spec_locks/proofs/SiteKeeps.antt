@@ -197,16 +197,16 @@ module _ (r : Rules) (s : Site) (t : ℕ) (h : IsSite r s) where
   )
 
   -- a thread that is to set the bit, and has seen no waiters, has taken some
-  covers_still : (s.role t).wakes ≢ Some Main → (s.role t).sets ≡ true → (s.role t).covers ≡ true
+  covers_still : (s.role t).wakes ≢ Some Main → (s.role t).bit_pending ≡ true → (s.role t).owes_taken ≡ true
   covers_still none e = elim (h.setting t e) [
-    | inl covers ↦ covers
+    | inl owes_taken ↦ owes_taken
     | inr wakes ↦ absurd (none wakes.1)
   ]
 
   -- a thread that gives way sees the bit, or has the next in hand
   way_debt : (claims : Option Claim) → (s.role t).wakes ≡ None → (s.lock.queue ≢ [])
-      ⊎ ((s.role t).brings ≡ true) → IsDebtorRole r.sort (role_giving_way s (s.role t) claims)
-      ⊎ ((s.lock.queue ≢ []) × (s.parked ≡ false) × ((s.role t).sets ≡ false))
+      ⊎ ((s.role t).will_bring ≡ true) → IsDebtorRole r.sort (role_giving_way s (s.role t) claims)
+      ⊎ ((s.lock.queue ≢ []) × (s.parked ≡ false) × ((s.role t).bit_pending ≡ false))
   way_debt claims none one = grind (arith, h.brought t, h.setting t)
 
   shared_local : (n : Needed r (Case (Convert Exclusive Shared)) s t)
@@ -256,7 +256,7 @@ module _ (r : Rules) (s : Site) (t : ℕ) (h : IsSite r s) where
       → Local r s (done r (TakeAside u) s t (locks.after_case r (TakeAside u) s.lock t)) t (s.role t)
       (record (s.role t) {
         wakes = None;
-        carries = true;
+        has_taken = true;
         empty = Some Second;
       })
   aside_local u n = record {
@@ -335,8 +335,8 @@ module _ (r : Rules) (s : Site) (t : ℕ) (h : IsSite r s) where
       late_fills Main e = rw e refl
       late_fills Second e = rw e refl
 
-      late_awaited : (late_lock.queue ≢ []) ⊎ ((s.role t).brings ≡ true) → (s.lock.queue ≢ [])
-          ⊎ ((s.role t).brings ≡ true)
+      late_awaited : (late_lock.queue ≢ []) ⊎ ((s.role t).will_bring ≡ true) → (s.lock.queue ≢ [])
+          ⊎ ((s.role t).will_bring ≡ true)
       late_awaited (inl k) = inl (λ e. k (rw e refl))
       late_awaited (inr k) = inr k
 
@@ -346,8 +346,8 @@ module _ (r : Rules) (s : Site) (t : ℕ) (h : IsSite r s) where
       late_second (Some Main) e none = inr (e, none, λ k. cc)
       late_second (Some Second) e none = inl refl
 
-      late_bit : s.lock.queue ≢ [] → (s.parked ≡ true) ⊎ (((s.role t).sets ≡ true)
-          ⊎ ((s.lock.queue ≢ []) × (s.parked ≡ false) × ((s.role t).sets ≡ false)))
+      late_bit : s.lock.queue ≢ [] → (s.parked ≡ true) ⊎ (((s.role t).bit_pending ≡ true)
+          ⊎ ((s.lock.queue ≢ []) × (s.parked ≡ false) × ((s.role t).bit_pending ≡ false)))
       late_bit left = grind arith
 
   -- the mutex that is shown is no matter of owners, waiters or hands

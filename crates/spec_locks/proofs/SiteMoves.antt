@@ -85,17 +85,17 @@ module _ (r : Rules) (s : Site) (t : ℕ) (h : IsSite r s) where
           ) (grind (arith, nat_tests)),
         )
 
-    not_covers : (s.role t).covers ≡ true → ⊥
+    not_covers : (s.role t).owes_taken ≡ true → ⊥
     not_covers c = let g = (h.covered t c).1 in let f = n.2 in cc
 
-    not_sets : (s.role t).sets ≡ true → ⊥
+    not_sets : (s.role t).bit_pending ≡ true → ⊥
     not_sets k = elim (h.setting t k) [
-      | inl covers ↦ not_covers covers
+      | inl owes_taken ↦ not_covers owes_taken
       | inr wakes ↦ let mutex = n.0 in let once = wakes.0 in cc
     ]
 
-    still_bit_there : s.lock.queue ≢ [] → (s.parked ≡ true) ⊎ (((bringing gone moved (s.role t)).sets ≡ true)
-        ⊎ ((s.lock.queue ≢ []) × (s.parked ≡ false) × ((s.role t).sets ≡ false)))
+    still_bit_there : s.lock.queue ≢ [] → (s.parked ≡ true) ⊎ (((bringing gone moved (s.role t)).bit_pending ≡ true)
+        ⊎ ((s.lock.queue ≢ []) × (s.parked ≡ false) × ((s.role t).bit_pending ≡ false)))
     still_bit_there left = grind (arith, not_sets)
 
     brings_local : Local r s (after_deed r (Bring gone moved) s t) t (s.role t)
@@ -134,17 +134,17 @@ module _ (r : Rules) (s : Site) (t : ℕ) (h : IsSite r s) where
         fills_by Second e = inl e
 
         bit_by : (xs : List Queued) → xs ≡ gone → (ys : List Queued) → ys ≡ moved → s.lock.queue ++ moved ≢ []
-            → (s.parked ≡ true) ⊎ (((bringing gone moved (s.role t)).sets ≡ true)
-            ⊎ ((s.lock.queue ≢ []) × (s.parked ≡ false) × ((s.role t).sets ≡ false)))
+            → (s.parked ≡ true) ⊎ (((bringing gone moved (s.role t)).bit_pending ≡ true)
+            ⊎ ((s.lock.queue ≢ []) × (s.parked ≡ false) × ((s.role t).bit_pending ≡ false)))
         bit_by [] e ys f left = inl (h.brought t (n.7 (sym e))).1
         bit_by (x ∷ xs) e [] f left = still_bit_there (λ k. left (rw (k, ← f) refl))
         bit_by (x ∷ xs) e (y ∷ ys) f left = inr (inl (rw (← e, ← f) refl))
 
         debt_by : IsOpen r.sort s.lock → (xs : List Queued) → xs ≡ gone → IsDebtorRole r.sort
             (bringing gone moved (s.role t))
-            ⊎ ((((s.lock.queue ≢ []) ⊎ ((s.role t).brings ≡ true)) × IsOpen r.sort s.lock
+            ⊎ ((((s.lock.queue ≢ []) ⊎ ((s.role t).will_bring ≡ true)) × IsOpen r.sort s.lock
             × (IsDebtorRole r.sort (s.role t) → IsDebtorRole r.sort (bringing gone moved (s.role t))))
-            ⊎ ((s.lock.queue ≢ []) × (s.parked ≡ false) × ((s.role t).sets ≡ false)))
+            ⊎ ((s.lock.queue ≢ []) × (s.parked ≡ false) × ((s.role t).bit_pending ≡ false)))
         debt_by free [] e = inr (inl (inr (n.7 (sym e)), free, λ debt. absurd (grind (arith, not_covers))))
         debt_by free (x ∷ xs) e = inl (inr (inl (rw (← e) refl)))
 
@@ -188,8 +188,8 @@ module _ (r : Rules) (s : Site) (t : ℕ) (h : IsSite r s) where
       still_empty Second e = e
 
       still_parked : s.lock.queue ≢ [] → (s.parked ≡ true)
-          ⊎ (((s.role t).sets ≡ true) ⊎ ((s.lock.queue ≢ []) × (s.parked ≡ false)
-          × ((s.role t).sets ≡ false)))
+          ⊎ (((s.role t).bit_pending ≡ true) ⊎ ((s.lock.queue ≢ []) × (s.parked ≡ false)
+          × ((s.role t).bit_pending ≡ false)))
       still_parked some = grind arith
 
       stood : (u : ℕ) → 1 ≤ standing u (left_after all s.lock) → 1 ≤ standing u s.lock
@@ -241,8 +241,8 @@ module _ (r : Rules) (s : Site) (t : ℕ) (h : IsSite r s) where
       still_empty Second e = rw e refl
 
       still_parked : s.lock.queue ≢ [] → (s.parked ≡ true)
-          ⊎ (((s.role t).sets ≡ true) ⊎ ((s.lock.queue ≢ []) × (s.parked ≡ false)
-          × ((s.role t).sets ≡ false)))
+          ⊎ (((s.role t).bit_pending ≡ true) ⊎ ((s.lock.queue ≢ []) × (s.parked ≡ false)
+          × ((s.role t).bit_pending ≡ false)))
       still_parked some = grind arith
 
       stood : (u : ℕ) → 1 ≤ standing u late_lock → 1 ≤ standing u s.lock

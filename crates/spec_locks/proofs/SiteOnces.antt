@@ -59,8 +59,8 @@ module _ (r : Rules) (s : Site) (t : ℕ) (h : IsSite r s) where
       → Local r s (done r (OfOnce TakeAll) s t (once_after TakeAll s.lock t)) t (s.role t)
       (record (s.role t) {
         wakes = None;
-        sets = false;
-        carries = true;
+        bit_pending = false;
+        has_taken = true;
       })
   takes_all_local n = record {
     state = state r s t h (OfOnce TakeAll) n;

@@ -18,15 +18,15 @@ use Rattle.spec_locks.proofs.SiteFacts.{put_changed, state}
 
 module _ (r : Rules) (s : Site) (t : ℕ) (h : IsSite r s) where
   -- t takes some of the main line
-  module _ (gone left : List Queued) (covers : Bool) (lock : r.sort ≢ Once) (n : (s.role t).inside
-      ≡ Some Main) (free : (s.role t).carries ≡ false) (elsewhere : (s.role t).wakes ≢ Some Second)
+  module _ (gone left : List Queued) (owes_taken : Bool) (lock : r.sort ≢ Once) (n : (s.role t).inside
+      ≡ Some Main) (free : (s.role t).has_taken ≡ false) (elsewhere : (s.role t).wakes ≢ Some Second)
       (nobody : HasTakenNobody s.lock t)
       (state_now : IsLockState r (record s.lock {
         queue = left;
         taken = taking t gone s.lock.taken;
       })) (part : (u : ℕ) → times u gone + times u left ≡ times u s.lock.queue) (none : s.lock.queue ≡ []
       → left ≡ [])
-      (barred : covers ≡ false → IsOpen r.sort s.lock → ⊥) (passes : covers ≡ true → left ≢ [] → (u : ℕ)
+      (barred : owes_taken ≡ false → IsOpen r.sort s.lock → ⊥) (passes : owes_taken ≡ true → left ≢ [] → (u : ℕ)
       × (counts_taken r.sort t (taking t gone s.lock.taken u) ≡ true)) where
     abbrev now : LockState
     now = record s.lock { queue = left; taken = taking t gone s.lock.taken }
@@ -49,24 +49,24 @@ module _ (r : Rules) (s : Site) (t : ℕ) (h : IsSite r s) where
     stood : (u : ℕ) → 1 ≤ standing u now → 1 ≤ standing u s.lock
     stood u e = let a = times_taking u t gone s.lock.taken in let b = part u in omega arith
 
-    not_set : (s.role t).sets ≡ true → ⊥
+    not_set : (s.role t).bit_pending ≡ true → ⊥
     not_set k = elim (h.setting t k) [
-      | inl covers ↦ let g = (h.covered t covers).1 in let f = free in cc
+      | inl owes_taken ↦ let g = (h.covered t owes_taken).1 in let f = free in cc
       | inr once ↦ lock once.0
     ]
 
-    still_bit : s.lock.queue ≢ [] → (s.parked ≡ true) ⊎ (((s.role t).sets ≡ true)
-        ⊎ ((s.lock.queue ≢ []) × (s.parked ≡ false) × ((s.role t).sets ≡ false)))
+    still_bit : s.lock.queue ≢ [] → (s.parked ≡ true) ⊎ (((s.role t).bit_pending ≡ true)
+        ⊎ ((s.lock.queue ≢ []) × (s.parked ≡ false) × ((s.role t).bit_pending ≡ false)))
     still_bit left = grind (arith, not_set)
 
     abbrev took : Site
     took = record s {
       lock = now;
       filled = s.filled || is_full r now;
-      role = putting s.role t (taking_main covers now (s.role t));
+      role = putting s.role t (taking_main owes_taken now (s.role t));
     }
 
-    take_local : Local r s took t (s.role t) (taking_main covers now (s.role t))
+    take_local : Local r s took t (s.role t) (taking_main owes_taken now (s.role t))
     take_local = record {
       state = state_now;
       parked = λ e. still_bit (λ k. e (none k));

@@ -11,7 +11,7 @@ use Rattle.spec_locks.specs.Sites.{IsDebtorRole, LooksAfter, Holds, is_full, cou
 pub record Local (r : Rules) (s v : Site) (t : ℕ) (d d2 : Role) : Type 0 where
   pub state : IsLockState r v.lock
   pub parked : v.lock.queue ≢ [] → (v.parked ≡ true)
-      ⊎ ((d2.sets ≡ true) ⊎ ((s.lock.queue ≢ []) × (s.parked ≡ false) × (d.sets ≡ false)))
+      ⊎ ((d2.bit_pending ≡ true) ⊎ ((s.lock.queue ≢ []) × (s.parked ≡ false) × (d.bit_pending ≡ false)))
   -- the bit stays where waiters may be brought: to a mutex, by a thread that is inside
   pub bit_stays : s.parked ≡ true → (v.parked ≡ true) ⊎ ((d.inside ≡ Some Main) ⊎ (r.sort ≢ Mutex))
   pub aside_parked : v.lock.aside ≢ None → v.aside_parked ≡ true
@@ -22,10 +22,10 @@ pub record Local (r : Rules) (s v : Site) (t : ℕ) (d d2 : Role) : Type 0 where
   pub fills : (m : Line) → IsEmpty s.lock m → IsEmpty v.lock m ⊎ (d.inside ≡ Some m)
   -- the claims of the thread about itself are true
   pub emptied : (m : Line) → d2.empty ≡ Some m → (d2.inside ≡ Some m) × IsEmpty v.lock m
-  pub covered : d2.covers ≡ true → (d2.inside ≡ Some Main) × (d2.carries ≡ true)
+  pub covered : d2.owes_taken ≡ true → (d2.inside ≡ Some Main) × (d2.has_taken ≡ true)
       × (v.lock.queue ≢ [] → (u : ℕ) × (counts_taken r.sort t (v.lock.taken u) ≡ true))
-  pub brought : d2.brings ≡ true → (d2.inside ≡ Some Main) × (v.parked ≡ true) × (r.sort ≡ Mutex)
-  pub setting : d2.sets ≡ true → LooksAfter r.sort d2
+  pub brought : d2.will_bring ≡ true → (d2.inside ≡ Some Main) × (v.parked ≡ true) × (r.sort ≡ Mutex)
+  pub setting : d2.bit_pending ≡ true → LooksAfter r.sort d2
   pub held : (c : Claim) → d2.claims ≡ Some c → Holds v.lock t c
   pub unwoken : 1 ≤ standing t v.lock → d2.retries ≡ None
   -- nobody else loses what it has, or comes to stand while it tries again
@@ -34,13 +34,13 @@ pub record Local (r : Rules) (s v : Site) (t : ℕ) (d d2 : Role) : Type 0 where
   pub others_hold : (u : ℕ) (c : Claim) → u ≢ t → Holds s.lock u c → Holds v.lock u c
   pub others_carry : (x u : ℕ) → u ≢ t → counts_taken r.sort u (s.lock.taken x) ≡ true
       → counts_taken r.sort u (v.lock.taken x) ≡ true
-  pub taken_by : (x : ℕ) (h : Taken) → v.lock.taken x ≡ Some h → ((h.by ≡ t) × (d2.carries ≡ true))
+  pub taken_by : (x : ℕ) (h : Taken) → v.lock.taken x ≡ Some h → ((h.by ≡ t) × (d2.has_taken ≡ true))
       ⊎ ((h.by ≢ t) × (s.lock.taken x ≡ Some h))
   -- a thread that is forgotten by it is another's
-  pub main : (v.lock.queue ≢ []) ⊎ (d2.brings ≡ true) → IsOpen r.sort v.lock → v.filled ≡ false
-      → IsDebtorRole r.sort d2 ⊎ ((((s.lock.queue ≢ []) ⊎ (d.brings ≡ true)) × IsOpen r.sort s.lock
+  pub main : (v.lock.queue ≢ []) ⊎ (d2.will_bring ≡ true) → IsOpen r.sort v.lock → v.filled ≡ false
+      → IsDebtorRole r.sort d2 ⊎ ((((s.lock.queue ≢ []) ⊎ (d.will_bring ≡ true)) × IsOpen r.sort s.lock
       × (IsDebtorRole r.sort d → IsDebtorRole r.sort d2)) ⊎ ((s.lock.queue ≢ []) × (s.parked ≡ false)
-      × (d.sets ≡ false)))
+      × (d.bit_pending ≡ false)))
   -- nor a thread that is to be brought by another, inside the main section
   pub main_brought : s.parked ≡ true → d.inside ≢ Some Main → IsOpen r.sort v.lock → v.filled ≡ false
       → IsDebtorRole r.sort d2 ⊎ (IsOpen r.sort s.lock × (IsDebtorRole r.sort d → IsDebtorRole r.sort d2))
@@ -91,15 +91,15 @@ module _ (r : Rules) (s v : Site) (t : ℕ) (d d2 : Role) (h : IsSite r s) (is :
   ]
 
   -- another that took waiters is inside, so t can't have filled the line
-  hands_on : (u : ℕ) → u ≢ t → (s.role u).covers ≡ true → v.lock.queue ≢ [] → (x : ℕ)
+  hands_on : (u : ℕ) → u ≢ t → (s.role u).owes_taken ≡ true → v.lock.queue ≢ [] → (x : ℕ)
       × (counts_taken r.sort u (v.lock.taken x) ≡ true)
   hands_on u ne c left =
       let was = h.covered u c in
       let one = was.2 (λ none. left (stays_empty u Main ne was.0 none)) in
       (one.0, local.others_carry one.0 u ne one.1)
 
-  still_covered : (u : ℕ) → (v.role u).covers ≡ true → ((v.role u).inside ≡ Some Main)
-      × ((v.role u).carries ≡ true) × (v.lock.queue ≢ [] → (x : ℕ)
+  still_covered : (u : ℕ) → (v.role u).owes_taken ≡ true → ((v.role u).inside ≡ Some Main)
+      × ((v.role u).has_taken ≡ true) × (v.lock.queue ≢ [] → (x : ℕ)
       × (counts_taken r.sort u (v.lock.taken x) ≡ true))
   still_covered u c = elim (cases_eq u t) [
     | inl f ↦ rw (f, role.here) (local.covered (rw (f, role.here) at c))
@@ -110,13 +110,13 @@ module _ (r : Rules) (s v : Site) (t : ℕ) (d d2 : Role) (h : IsSite r s) (is :
     )
   ]
 
-  still_carried : (x : ℕ) (a : Taken) → v.lock.taken x ≡ Some a → (v.role a.by).carries ≡ true
+  still_carried : (x : ℕ) (a : Taken) → v.lock.taken x ≡ Some a → (v.role a.by).has_taken ≡ true
   still_carried x a e = elim (local.taken_by x a e) [
     | inl k ↦ rw (k.0, role.here) k.1
     | inr k ↦ rw (role.other a.by k.0) (h.carried x a k.1)
   ]
 
-  still_brought : (u : ℕ) → (v.role u).brings ≡ true → ((v.role u).inside ≡ Some Main) × (v.parked ≡ true)
+  still_brought : (u : ℕ) → (v.role u).will_bring ≡ true → ((v.role u).inside ≡ Some Main) × (v.parked ≡ true)
       × (r.sort ≡ Mutex)
   still_brought u e = elim (cases_eq u t) [
     | inl f ↦ rw (f, role.here) (local.brought (rw (f, role.here) at e))
@@ -131,23 +131,23 @@ module _ (r : Rules) (s v : Site) (t : ℕ) (d d2 : Role) (h : IsSite r s) (is :
     )
   ]
 
-  still_setting : (u : ℕ) → (v.role u).sets ≡ true → LooksAfter r.sort (v.role u)
+  still_setting : (u : ℕ) → (v.role u).bit_pending ≡ true → LooksAfter r.sort (v.role u)
   still_setting u e = elim (cases_eq u t) [
     | inl f ↦ rw (f, role.here) (local.setting (rw (f, role.here) at e))
     | inr ne ↦ rw (role.other u ne) (h.setting u (rw (role.other u ne) at e))
   ]
 
   -- where the bit is clear beside a waiter, and t is not the one that sets it, another is
-  other_sets : s.lock.queue ≢ [] → s.parked ≡ false → d.sets ≡ false → (u : ℕ) × ((v.role u).sets ≡ true)
+  other_sets : s.lock.queue ≢ [] → s.parked ≡ false → d.bit_pending ≡ false → (u : ℕ) × ((v.role u).bit_pending ≡ true)
   other_sets left clear none = elim (h.parked left) [
     | inl k ↦ absurd (let g = k in cc)
     | inr one ↦ elim (cases_eq one.0 t) [
-      | inl e ↦ absurd (let g : d.sets ≡ true = rw (e, is) at one.1 in cc)
+      | inl e ↦ absurd (let g : d.bit_pending ≡ true = rw (e, is) at one.1 in cc)
       | inr ne ↦ (one.0, rw (role.other one.0 ne) one.1)
     ]
   ]
 
-  still_parked : v.lock.queue ≢ [] → (v.parked ≡ true) ⊎ ((u : ℕ) × ((v.role u).sets ≡ true))
+  still_parked : v.lock.queue ≢ [] → (v.parked ≡ true) ⊎ ((u : ℕ) × ((v.role u).bit_pending ≡ true))
   still_parked left = elim (local.parked left) [
     | inl k ↦ inl k
     | inr (inl k) ↦ inr (t, rw role.here k)
@@ -181,36 +181,36 @@ module _ (r : Rules) (s v : Site) (t : ℕ) (d d2 : Role) (h : IsSite r s) (is :
       either false e = refl
       either true e = absurd (let g = local.filled e in cc)
 
-  awaited : (s.lock.queue ≢ []) ⊎ (d.brings ≡ true) → (s.lock.queue ≢ [])
-      ⊎ ((u : ℕ) × ((s.role u).brings ≡ true))
+  awaited : (s.lock.queue ≢ []) ⊎ (d.will_bring ≡ true) → (s.lock.queue ≢ [])
+      ⊎ ((u : ℕ) × ((s.role u).will_bring ≡ true))
   awaited (inl k) = inl k
   awaited (inr k) = inr (t, rw is k)
 
   -- a thread that looks after the line is a debtor
   in_debt : (e : Role) → LooksAfter r.sort e → IsDebtorRole r.sort e
-  in_debt e (inl covers) = inr (inl covers)
+  in_debt e (inl owes_taken) = inr (inl owes_taken)
   in_debt e (inr wakes) = inl wakes.1
 
-  own_main : (v.lock.queue ≢ []) ⊎ (d2.brings ≡ true) → IsOpen r.sort v.lock → v.filled ≡ false → (u : ℕ)
+  own_main : (v.lock.queue ≢ []) ⊎ (d2.will_bring ≡ true) → IsOpen r.sort v.lock → v.filled ≡ false → (u : ℕ)
       × IsDebtorRole r.sort (v.role u)
   own_main one free room = elim (local.main one free room) [
     | inl own ↦ (t, rw role.here own)
     | inr (inl k) ↦ other_debtor (h.main (awaited k.0) k.1 (unfilled room)) k.2
-    | inr (inr k) ↦ let sets = other_sets k.0 k.1 k.2
-        in (sets.0, in_debt (v.role sets.0) (still_setting sets.0 sets.1))
+    | inr (inr k) ↦ let bit_pending = other_sets k.0 k.1 k.2
+        in (bit_pending.0, in_debt (v.role bit_pending.0) (still_setting bit_pending.0 bit_pending.1))
   ]
 
-  still_main : (v.lock.queue ≢ []) ⊎ ((u : ℕ) × ((v.role u).brings ≡ true)) → IsOpen r.sort v.lock
+  still_main : (v.lock.queue ≢ []) ⊎ ((u : ℕ) × ((v.role u).will_bring ≡ true)) → IsOpen r.sort v.lock
       → v.filled ≡ false → (u : ℕ) × IsDebtorRole r.sort (v.role u)
   still_main (inl left) free room = own_main (inl left) free room
   still_main (inr one) free room = elim (cases_eq one.0 t) [
     | inl e ↦ own_main (inr (rw (e, role.here) at one.1)) free room
     | inr ne ↦
-        let brings = rw (role.other one.0 ne) at one.1 in
-        let was = h.brought one.0 brings in
+        let will_bring = rw (role.other one.0 ne) at one.1 in
+        let was = h.brought one.0 will_bring in
         elim (local.main_brought was.1 (λ k. ne (h.alone one.0 t Main was.0 (rw is k))) free room) [
           | inl own ↦ (t, rw role.here own)
-          | inr k ↦ other_debtor (h.main (inr (one.0, brings)) k.0 (unfilled room)) k.1
+          | inr k ↦ other_debtor (h.main (inr (one.0, will_bring)) k.0 (unfilled room)) k.1
         ]
   ]
 

@@ -10,7 +10,7 @@ use Rattle.std.specs.Prelude.{not, filter, take, drop, slice_index}
 use Rattle.core_base.specs.declared.wants.Want.{Want}
 use Rattle.core_base.specs.declared.wants.Want.TheVariants.{Exclusive, Upgradable, Shared}
 use Rattle.spec_locks.specs.declared.calls.Turn.{Turn}
-use Rattle.spec_locks.specs.declared.calls.Turn as turn
+use Rattle.spec_locks.specs.declared.calls.Turn.TheVariants as turn
 use Rattle.spec_locks.specs.declared.calls.Step.{Step}
 use Rattle.spec_locks.specs.declared.outcomes.Outcome.{Outcome}
 use Rattle.spec_locks.specs.Locks.{LockState, LockCase, MayConvert, Enter, Pend, Settle, Leave, Convert, Park}
@@ -91,12 +91,12 @@ module _ (w : LocksState) (t l : ℕ) where
   went v o g = rw (g.locks l) (happened g.event g.may)
 
   did : (v : LocksState) (x : Turn) (o : Outcome) → Does w t x o v → Change w t l (v.locks l)
-  did v (turn.TheVariants.Begin c) o d = None_ (d.locks l)
-  did v turn.TheVariants.Go o d = went v o d
-  did v turn.TheVariants.Spin o d = went v o d.goes
-  did v turn.TheVariants.Late o d = None_ (d.locks l)
-  did v turn.TheVariants.Ok o d = went v o d.goes
-  did v turn.TheVariants.Err o d = went v o d.goes
+  did v (turn.Begin c) o d = None_ (d.locks l)
+  did v turn.Go o d = went v o d
+  did v turn.Spin o d = went v o d.goes
+  did v turn.Late o d = None_ (d.locks l)
+  did v turn.Ok o d = went v o d.goes
+  did v turn.Err o d = went v o d.goes
 
   turned : (v : LocksState) (x : Turn) (o : Outcome) → Turned w t x o v → Change w t l (v.locks l)
   turned v x o (inl d) = did v x o d.1

@@ -16,23 +16,23 @@ use Rattle.spec_locks.proofs.Hands.{kept_few, kept_counts, kept_by}
 pub record Alike (d e : Role) : Type 0 where
   pub inside : d.inside ≡ e.inside
   pub wakes : d.wakes ≡ e.wakes
-  pub carries : d.carries ≡ e.carries
-  pub covers : d.covers ≡ e.covers
+  pub has_taken : d.has_taken ≡ e.has_taken
+  pub owes_taken : d.owes_taken ≡ e.owes_taken
   pub empty : d.empty ≡ e.empty
   pub claims : d.claims ≡ e.claims
-  pub brings : d.brings ≡ e.brings
-  pub sets : d.sets ≡ e.sets
+  pub will_bring : d.will_bring ≡ e.will_bring
+  pub bit_pending : d.bit_pending ≡ e.bit_pending
 
 pub wakened_alike : (t : ℕ) (o : Option Taken) (d : Role) → Alike (wakened t o d) d
 wakened_alike t None d = record {
   inside = refl;
   wakes = refl;
-  carries = refl;
-  covers = refl;
+  has_taken = refl;
+  owes_taken = refl;
   empty = refl;
   claims = refl;
-  brings = refl;
-  sets = refl;
+  will_bring = refl;
+  bit_pending = refl;
 }
 wakened_alike t (Some h) d = either (h.by == t)
   where
@@ -40,22 +40,22 @@ wakened_alike t (Some h) d = either (h.by == t)
     either true = record {
       inside = refl;
       wakes = refl;
-      carries = refl;
-      covers = refl;
+      has_taken = refl;
+      owes_taken = refl;
       empty = refl;
       claims = refl;
-      brings = refl;
-      sets = refl;
+      will_bring = refl;
+      bit_pending = refl;
     }
     either false = record {
       inside = refl;
       wakes = refl;
-      carries = refl;
-      covers = refl;
+      has_taken = refl;
+      owes_taken = refl;
       empty = refl;
       claims = refl;
-      brings = refl;
-      sets = refl;
+      will_bring = refl;
+      bit_pending = refl;
     }
 
 -- each thread that stays in hand, or was in none, doesn't try again by this
@@ -107,45 +107,45 @@ module _ (r : Rules) (s : Site) (t : ℕ) (h : IsSite r s) (n : Needed r Out s t
     | inr ne ↦ (ne, sym (other u ne).empty ∙ i)
   ]
 
-  covers_other : (u : ℕ) → (v.role u).covers ≡ true → (u ≢ t) × ((s.role u).covers ≡ true)
+  covers_other : (u : ℕ) → (v.role u).owes_taken ≡ true → (u ≢ t) × ((s.role u).owes_taken ≡ true)
   covers_other u i = elim (cases_eq u t) [
-    | inl e ↦ absurd (let k : (v.role t).covers ≡ true = rw e at i in let g = own.covers in cc)
-    | inr ne ↦ (ne, sym (other u ne).covers ∙ i)
+    | inl e ↦ absurd (let k : (v.role t).owes_taken ≡ true = rw e at i in let g = own.owes_taken in cc)
+    | inr ne ↦ (ne, sym (other u ne).owes_taken ∙ i)
   ]
 
-  brings_other : (u : ℕ) → (v.role u).brings ≡ true → (u ≢ t) × ((s.role u).brings ≡ true)
+  brings_other : (u : ℕ) → (v.role u).will_bring ≡ true → (u ≢ t) × ((s.role u).will_bring ≡ true)
   brings_other u i = elim (cases_eq u t) [
-    | inl e ↦ absurd (let k : (v.role t).brings ≡ true = rw e at i in let g = own.brings in cc)
-    | inr ne ↦ (ne, sym (other u ne).brings ∙ i)
+    | inl e ↦ absurd (let k : (v.role t).will_bring ≡ true = rw e at i in let g = own.will_bring in cc)
+    | inr ne ↦ (ne, sym (other u ne).will_bring ∙ i)
   ]
 
-  sets_other : (u : ℕ) → (v.role u).sets ≡ true → (u ≢ t) × ((s.role u).sets ≡ true)
+  sets_other : (u : ℕ) → (v.role u).bit_pending ≡ true → (u ≢ t) × ((s.role u).bit_pending ≡ true)
   sets_other u i = elim (cases_eq u t) [
-    | inl e ↦ absurd (let k : (v.role t).sets ≡ true = rw e at i in let g = own.sets in cc)
-    | inr ne ↦ (ne, sym (other u ne).sets ∙ i)
+    | inl e ↦ absurd (let k : (v.role t).bit_pending ≡ true = rw e at i in let g = own.bit_pending in cc)
+    | inr ne ↦ (ne, sym (other u ne).bit_pending ∙ i)
   ]
 
-  still_parked : s.lock.queue ≢ [] → (s.parked ≡ true) ⊎ ((u : ℕ) × ((v.role u).sets ≡ true))
+  still_parked : s.lock.queue ≢ [] → (s.parked ≡ true) ⊎ ((u : ℕ) × ((v.role u).bit_pending ≡ true))
   still_parked left = elim (h.parked left) [
     | inl k ↦ inl k
     | inr one ↦
-        let ne : one.0 ≢ t = (λ e. let k : (s.role t).sets ≡ true = rw e at one.1 in let g = n.2 in cc) in
-        inr (one.0, (other one.0 ne).sets ∙ one.1)
+        let ne : one.0 ≢ t = (λ e. let k : (s.role t).bit_pending ≡ true = rw e at one.1 in let g = n.2 in cc) in
+        inr (one.0, (other one.0 ne).bit_pending ∙ one.1)
   ]
 
-  still_brought : (u : ℕ) → (v.role u).brings ≡ true → ((v.role u).inside ≡ Some Main) × (s.parked ≡ true)
+  still_brought : (u : ℕ) → (v.role u).will_bring ≡ true → ((v.role u).inside ≡ Some Main) × (s.parked ≡ true)
       × (r.sort ≡ Mutex)
   still_brought u i = let k = brings_other u i in let was = h.brought u k.1
       in ((other u k.0).inside ∙ was.0, was.1, was.2)
 
-  still_setting : (u : ℕ) → (v.role u).sets ≡ true → LooksAfter r.sort (v.role u)
+  still_setting : (u : ℕ) → (v.role u).bit_pending ≡ true → LooksAfter r.sort (v.role u)
   still_setting u i = let k = sets_other u i in elim (h.setting u k.1) [
-    | inl covers ↦ inl ((other u k.0).covers ∙ covers)
+    | inl owes_taken ↦ inl ((other u k.0).owes_taken ∙ owes_taken)
     | inr wakes ↦ inr (wakes.0, (other u k.0).wakes ∙ wakes.1)
   ]
 
-  was_awaited : (v.lock.queue ≢ []) ⊎ ((u : ℕ) × ((v.role u).brings ≡ true)) → (s.lock.queue ≢ [])
-      ⊎ ((u : ℕ) × ((s.role u).brings ≡ true))
+  was_awaited : (v.lock.queue ≢ []) ⊎ ((u : ℕ) × ((v.role u).will_bring ≡ true)) → (s.lock.queue ≢ [])
+      ⊎ ((u : ℕ) × ((s.role u).will_bring ≡ true))
   was_awaited (inl k) = inl k
   was_awaited (inr one) = inr (one.0, (brings_other one.0 one.1).1)
 
@@ -163,18 +163,18 @@ module _ (r : Rules) (s : Site) (t : ℕ) (h : IsSite r s) (n : Needed r Out s t
   still_emptied u m e = let k = empty_other u m e in let was = h.emptied u m k.1
       in ((other u k.0).inside ∙ was.0, grind arith)
 
-  still_covered : (u : ℕ) → (v.role u).covers ≡ true → ((v.role u).inside ≡ Some Main)
-      × ((v.role u).carries ≡ true) × (v.lock.queue ≢ [] → (x : ℕ)
+  still_covered : (u : ℕ) → (v.role u).owes_taken ≡ true → ((v.role u).inside ≡ Some Main)
+      × ((v.role u).has_taken ≡ true) × (v.lock.queue ≢ [] → (x : ℕ)
       × (counts_taken r.sort u (v.lock.taken x) ≡ true))
   still_covered u c = let k = covers_other u c in let was = h.covered u k.1 in (
     (other u k.0).inside ∙ was.0,
-    (other u k.0).carries ∙ was.1,
+    (other u k.0).has_taken ∙ was.1,
     λ left. let one = was.2 left
         in (one.0, kept_counts r.sort t u (s.lock.taken one.0) k.0 one.1),
   )
 
-  still_carried : (u : ℕ) (a : Taken) → v.lock.taken u ≡ Some a → (v.role a.by).carries ≡ true
-  still_carried u a e = let k = kept_by t (s.lock.taken u) a e in (other a.by k.0).carries ∙ h.carried u a k.1
+  still_carried : (u : ℕ) (a : Taken) → v.lock.taken u ≡ Some a → (v.role a.by).has_taken ≡ true
+  still_carried u a e = let k = kept_by t (s.lock.taken u) a e in (other a.by k.0).has_taken ∙ h.carried u a k.1
 
   -- a thread that still stands was not in t's hand
   still_there : (u : ℕ) → 1 ≤ standing u v.lock → keep_from t (s.lock.taken u) ≡ s.lock.taken u
@@ -224,13 +224,13 @@ module _ (r : Rules) (s : Site) (t : ℕ) (h : IsSite r s) (n : Needed r Out s t
       cc)
 
   -- where t covers, it is alone inside, so nobody else brings
-  left_by : (v.lock.queue ≢ []) ⊎ ((u : ℕ) × ((v.role u).brings ≡ true)) → (s.role t).covers ≡ true
+  left_by : (v.lock.queue ≢ []) ⊎ ((u : ℕ) × ((v.role u).will_bring ≡ true)) → (s.role t).owes_taken ≡ true
       → s.lock.queue ≢ []
   left_by (inl k) c = k
   left_by (inr one) c = let b = brings_other one.0 one.1
       in absurd (b.0 (h.alone one.0 t Main (h.brought one.0 b.1).0 (h.covered t c).0))
 
-  still_main : (v.lock.queue ≢ []) ⊎ ((u : ℕ) × ((v.role u).brings ≡ true)) → IsOpen r.sort v.lock
+  still_main : (v.lock.queue ≢ []) ⊎ ((u : ℕ) × ((v.role u).will_bring ≡ true)) → IsOpen r.sort v.lock
       → v.filled ≡ false → (u : ℕ) × IsDebtorRole r.sort (v.role u)
   still_main left free room = let one = h.main (was_awaited left) (was_open r.sort free) room
       in by_debt one.0 one.1
@@ -245,7 +245,7 @@ module _ (r : Rules) (s : Site) (t : ℕ) (h : IsSite r s) (n : Needed r Out s t
               inr (inr (wakened_counts r.sort t (s.lock.taken one.0)
                   (putting s.role t (leaves (s.role t)) one.0) one.1)),
             )
-        | inr ne ↦ (u, inr (inl ((other u ne).covers ∙ c)))
+        | inr ne ↦ (u, inr (inl ((other u ne).owes_taken ∙ c)))
       ]
       by_debt u (inr (inr c)) = (
         u,

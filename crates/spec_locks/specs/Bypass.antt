@@ -41,7 +41,8 @@ pub record IsHandedOn (w v : LocksState) (n l t : ℕ) : Type 0 where
   pub hands : (u : ℕ) → (v.locks l).taken u ≢ None
       → ((w.locks l).taken u ≢ None) ⊎ (1 ≤ times u (w.locks l).queue)
 
--- then each passing of the mutex costs one of those that come before it, and nobody comes before it anew
+-- each passing of the mutex costs one of the threads that come before the waiter then, and nobody comes
+-- before it anew
 abbrev pub NobodyOvertakes : Type 0
 NobodyOvertakes =
     (w v : LocksState) (s : Step) (o : Outcome) (n l t : ℕ) → AreLockStates w → IsStep w s o v

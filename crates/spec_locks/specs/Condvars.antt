@@ -211,6 +211,6 @@ EachMoveFits =
     (r : Rules) (all locked : Bool) (c : CondvarSite) (s : Site) (t m : ℕ) → r.sort ≡ Mutex
     → IsCondvar c
     → WaitsAside c s m → IsInsideAt c t (moving all m)
-    → (s.role t).inside ≡ Some Main → (s.role t).carries ≡ false → (s.role t).wakes ≡ None
-    → (s.role t).retries ≡ None → (locked ≡ true → (s.role t).brings ≡ true)
+    → (s.role t).inside ≡ Some Main → (s.role t).has_taken ≡ false → (s.role t).wakes ≡ None
+    → (s.role t).retries ≡ None → (locked ≡ true → (s.role t).will_bring ≡ true)
     → MoveFits r all locked c s t m

@@ -34,7 +34,7 @@ AreOneCase (Send all ∷ ds) = ⊥
 AreOneCase (LeaveLine ∷ ds) = KeepLock ds
 AreOneCase (d ∷ ds) = AreOneCase ds
 
--- That case. A thread that leaves a section wakes those that it has in hand, if any, where it
+-- A case by itself. A thread that leaves a section wakes those that it has in hand, if any, where it
 -- hasn't handed the lock over. `hand` tells both.
 abbrev pub case_of : Option Bool → List Deed → Option LockCase
 case_of hand [] = None

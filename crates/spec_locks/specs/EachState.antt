@@ -54,7 +54,7 @@ pub record StateHolds (w : LocksState) (was_full : ℕ → Bool) : Type 0 where
 
 -- ---------------------------------------------------------------- the first state
 
--- this many threads are there over locks of these kinds, and nothing has happened yet
+-- a number of threads are there over locks of these kinds, and nothing has happened yet
 pub record Opens (kinds : List Kind) (threads : ℕ) (w : LocksState) : Type 0 where
   pub opening : IsOpening w
   pub threads_there : w.threads ≡ threads

@@ -187,7 +187,7 @@ pub record StepHolds (w : LocksState) (step : Step) (o : Outcome) (v : LocksStat
       → Joins w step.thread u l (v.locks l)
   -- waiters that stay in a queue keep their order, and threads that join stand last
   pub order : QueuesKeepOrder w v
-  -- those that a notification moves to a mutex keep their order
+  -- waiters that a notification moves to a mutex keep their order
   pub in_order : (c l : ℕ) (all : Bool) → (w.calls step.thread).purpose ≡ Some (Notifies c all)
       → (rules_at w l).sort ≡ Mutex → MovesInOrder w c l (v.locks l)
   -- a thread leaves a queue as its time is up, as it comes into a hand, or as a notification moves it

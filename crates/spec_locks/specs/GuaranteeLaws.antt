@@ -5,7 +5,7 @@ use Rattle.spec_locks.specs.declared.kinds.Kind.{Kind}
 use Rattle.spec_locks.specs.declared.outcomes.Answer.{Answer}
 use Rattle.spec_locks.specs.declared.outcomes.Answer.TheVariants as answer
 use Rattle.spec_locks.specs.declared.outcomes.Outcome.{Outcome}
-use Rattle.spec_locks.specs.declared.outcomes.Outcome as outcome
+use Rattle.spec_locks.specs.declared.outcomes.Outcome.TheVariants as outcome
 use Rattle.spec_locks.specs.Locks.{Condvar, times}
 use Rattle.spec_locks.specs.Purposes.{Blank, Notifies, Saw}
 use Rattle.spec_locks.specs.Runs.{LocksState, AreLockStates, IsBeingEmptied, IsOpening, IsRun, IsStep, MayGo}
@@ -47,8 +47,8 @@ pub record WaitWithAnother (w v : LocksState) (t c : ℕ) : Type 0 where
 
 -- the answer of a notification that has moved nobody
 abbrev pub TellsNobody : Outcome → Type 0
-TellsNobody o = (o ≡ outcome.TheVariants.End answer.No)
-    ⊎ (o ≡ outcome.TheVariants.End (answer.Number 0))
+TellsNobody o = (o ≡ outcome.End answer.No)
+    ⊎ (o ≡ outcome.End (answer.Number 0))
 
 -- A notification answers that it has moved nobody only where nobody waits, all wait with another mutex
 -- than it has seen, or a notification of all is about to move them.
@@ -78,7 +78,7 @@ abbrev pub NotificationsReach : Type 0
 NotificationsReach =
     (c t u : ℕ) (w v z : LocksState) (steps : List Step) (told : List Outcome) (s : Step) (a : Answer)
     → IsToBeReached w c t u → (w.calls u).recalls ≡ Blank → GoesOnSo c t u w steps told v
-    → s.thread ≡ u → IsStep v s (outcome.TheVariants.End a) z → sort_in z c ≡ Condvar
+    → s.thread ≡ u → IsStep v s (outcome.End a) z → sort_in z c ≡ Condvar
     → 1 ≤ times t (z.locks c).queue → ((full : ℕ → Bool) × IsSafe z full)
     → IsBeingEmptied z c
 

@@ -86,7 +86,7 @@ pub record IsLookedAfter (w : LocksState) (l : ℕ) (m : Line) : Type 0 where
   pub debt : IsDebtor w debtor l m
   pub awake : IsAwake (w.stances debtor)
 
--- this many different threads are such debtors, and awake
+-- a number of different threads are such debtors, and awake
 pub record AreLookedAfter (w : LocksState) (l number : ℕ) : Type 0 where
   pub debtor : ℕ → ℕ
   pub apart : (i j : ℕ) → i < number → j < number → debtor i ≡ debtor j → i ≡ j

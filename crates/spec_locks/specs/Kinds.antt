@@ -4,7 +4,7 @@ use Rattle.spec_locks.specs.declared.kinds.Kind.{Kind}
 use Rattle.spec_locks.specs.declared.kinds.Kind.TheVariants.{Mutex, Fair, RwLock, Recursive, Condvar, Once}
 use Rattle.spec_locks.specs.declared.kinds.Kind.TheVariants.{Semaphore}
 use Rattle.spec_locks.specs.declared.calls.Call.{Call}
-use Rattle.spec_locks.specs.declared.calls.Call as call
+use Rattle.spec_locks.specs.declared.calls.Call.TheVariants as call
 use Rattle.spec_locks.specs.declared.kinds.TheConstants.{MOST_READERS, MOST_PERMITS}
 
 -- a reader limit is at least the number of threads, and at most 2^60 - 2; a semaphore has 1 to 2^62
@@ -20,13 +20,13 @@ fits (Semaphore permits) threads = nat_le 1 permits && nat_le permits MOST_PERMI
 
 -- whether locks of the kind have the call
 abbrev pub has_call : Kind → Call → Bool
-has_call Mutex (call.TheVariants.Mutex lock c) = true
-has_call Fair (call.TheVariants.Mutex lock c) = true
-has_call (RwLock limit) (call.TheVariants.RwLock lock c) = true
-has_call (Recursive limit) (call.TheVariants.RwLock lock c) = true
-has_call Condvar (call.TheVariants.Condvar lock c) = true
-has_call Once (call.TheVariants.Once lock c) = true
-has_call (Semaphore permits) (call.TheVariants.Semaphore lock c) = true
+has_call Mutex (call.Mutex lock c) = true
+has_call Fair (call.Mutex lock c) = true
+has_call (RwLock limit) (call.RwLock lock c) = true
+has_call (Recursive limit) (call.RwLock lock c) = true
+has_call Condvar (call.Condvar lock c) = true
+has_call Once (call.Once lock c) = true
+has_call (Semaphore permits) (call.Semaphore lock c) = true
 has_call _ c = false
 
 -- whether it is a mutex whose unlock hands the lock over

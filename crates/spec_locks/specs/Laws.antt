@@ -4,11 +4,11 @@ use Rattle.core_base.specs.declared.wants.Want.{Want}
 use Rattle.core_base.specs.declared.wants.Want.TheVariants.{Exclusive}
 use Rattle.spec_locks.specs.declared.kinds.Kind.TheVariants as kind
 use Rattle.spec_locks.specs.declared.calls.Call.{Call}
-use Rattle.spec_locks.specs.declared.calls.Turn as turn
+use Rattle.spec_locks.specs.declared.calls.Turn.TheVariants as turn
 use Rattle.spec_locks.specs.declared.calls.Step.{Step}
 use Rattle.spec_locks.specs.declared.outcomes.Answer.{Answer}
-use Rattle.spec_locks.specs.declared.outcomes.Answer as answer
-use Rattle.spec_locks.specs.declared.outcomes.Outcome as outcome
+use Rattle.spec_locks.specs.declared.outcomes.Answer.TheVariants as answer
+use Rattle.spec_locks.specs.declared.outcomes.Outcome.TheVariants as outcome
 use Rattle.spec_locks.specs.Locks.{Wake, Enter, IsFree, opening_lock}
 use Rattle.spec_locks.specs.Purposes.{Enters, Releases, Try}
 use Rattle.spec_locks.specs.Runs.{LocksState, AtLock, MayHappen, MayTurn, IsStep, new_call, no_rights}
@@ -18,14 +18,14 @@ use Rattle.spec_locks.specs.Runs.{rules_at}
 abbrev pub PossibleTurnsAreTaken : Type 0
 PossibleTurnsAreTaken =
     (w v : LocksState) (s : Step) → MayTurn w s.thread s.turn
-    → IsStep w s outcome.TheVariants.NotNow v → ⊥
+    → IsStep w s outcome.NotNow v → ⊥
 
 -- a call doesn't end as it begins
 abbrev pub CallsTakeSteps : Type 0
 CallsTakeSteps =
     (w v : LocksState) (t : ℕ) (c : Call) (a : Answer)
-    → IsStep w (record { thread = t; turn = turn.TheVariants.Begin c })
-    (outcome.TheVariants.End a) v → ⊥
+    → IsStep w (record { thread = t; turn = turn.Begin c })
+    (outcome.End a) v → ⊥
 
 -- a fair release wakes nobody in place of handing the lock over
 abbrev pub FairReleasesHandOver : Type 0
@@ -55,6 +55,6 @@ trying = record {
 -- a try of a mutex that nobody owns doesn't fail
 abbrev pub FreeMutexIsGot : Type 0
 FreeMutexIsGot = (v : LocksState)
-    → IsStep trying (record { thread = 0; turn = turn.TheVariants.Go })
-    (outcome.TheVariants.End answer.TheVariants.No) v
+    → IsStep trying (record { thread = 0; turn = turn.Go })
+    (outcome.End answer.No) v
     → ⊥

@@ -17,4 +17,4 @@ CallersAreLookedAfter =
     (r : Rules) (s : Site) → r.sort ≡ Once → s.filled ≡ false → IsSite r s
     → has_caller s.lock.queue ≡ true
     → (IsRunning s.lock.phase → ⊥)
-    → (t : ℕ) × (((s.role t).wakes ≡ Some Main) ⊎ ((s.role t).covers ≡ true))
+    → (t : ℕ) × (((s.role t).wakes ≡ Some Main) ⊎ ((s.role t).owes_taken ≡ true))

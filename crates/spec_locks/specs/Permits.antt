@@ -16,7 +16,7 @@ wakes_main line = 0
 
 -- a thread is to wake the next, has it in hand, or tries again
 abbrev pub debt : Role → ℕ
-debt d = wakes_main d.wakes + bit d.covers + one_if_some d.retries
+debt d = wakes_main d.wakes + bit d.owes_taken + one_if_some d.retries
 
 abbrev pub debts : Site → ℕ
 debts s = sum_to (length s.lock.shared) (λ t. debt (s.role t))
@@ -26,7 +26,7 @@ pub record HasPermits (r : Rules) (s : Site) : Type 0 where
   -- than the permits
   pub enough : s.lock.queue ≢ [] → r.limit ≤ readers s.lock + debts s
   -- nobody brings waiters from elsewhere
-  pub unset : (t : ℕ) → (s.role t).sets ≡ false
+  pub unset : (t : ℕ) → (s.role t).bit_pending ≡ false
   -- each waiter is a thread of the lot
   pub known : (u : ℕ) → 1 ≤ standing u s.lock → u < length s.lock.shared
 
@@ -41,4 +41,4 @@ abbrev pub PermitsAreLookedAfter : Type 0
 PermitsAreLookedAfter = (r : Rules) (s : Site) → HasPermits r s → s.lock.queue ≢ []
     → readers s.lock < r.limit
     → (t : ℕ) × (((s.role t).wakes ≡ Some Main)
-    ⊎ (((s.role t).covers ≡ true) ⊎ ((s.role t).retries ≢ None)))
+    ⊎ (((s.role t).owes_taken ≡ true) ⊎ ((s.role t).retries ≢ None)))

@@ -3,13 +3,13 @@ use Rattle.std.specs.Prelude.{ℕ, Bool, true, false, Option, Some, None, ◌≡
 use Rattle.core_base.specs.declared.wants.Want.{Want}
 use Rattle.core_base.specs.declared.wants.Want.TheVariants.{Exclusive, Upgradable, Shared, Wait, CallOnce}
 use Rattle.spec_locks.specs.declared.kinds.Kind.{Kind}
-use Rattle.spec_locks.specs.declared.kinds.Kind as kind
+use Rattle.spec_locks.specs.declared.kinds.Kind.TheVariants as kind
 use Rattle.spec_locks.specs.declared.calls.Call.{Call}
-use Rattle.spec_locks.specs.declared.calls.Call as call
+use Rattle.spec_locks.specs.declared.calls.Call.TheVariants as call
 use Rattle.spec_locks.specs.declared.calls.MutexCall.{MutexCall}
 pub use Rattle.spec_locks.specs.declared.calls.Patience.{Patience}
 pub use Rattle.spec_locks.specs.declared.calls.Patience.TheVariants.{Patient, Timed, Try}
-use Rattle.spec_locks.specs.declared.calls.MutexCall as mutex_call
+use Rattle.spec_locks.specs.declared.calls.MutexCall.TheVariants as mutex_call
 use Rattle.spec_locks.specs.declared.calls.Access.{Access}
 use Rattle.spec_locks.specs.declared.calls.Access.TheVariants as access
 use Rattle.spec_locks.specs.declared.calls.Downgrade.{Downgrade}
@@ -44,12 +44,12 @@ pub data Purpose : Type 0 where
 
 -- a fair mutex is released fairly by any release
 abbrev pub mutex_purpose : Bool → ℕ → MutexCall → Purpose
-mutex_purpose fair l mutex_call.TheVariants.Lock = Enters l Exclusive Patient
-mutex_purpose fair l mutex_call.TheVariants.LockTimed = Enters l Exclusive Timed
-mutex_purpose fair l mutex_call.TheVariants.TryLock = Enters l Exclusive Try
-mutex_purpose fair l mutex_call.TheVariants.Unlock = Releases l Exclusive fair
-mutex_purpose fair l mutex_call.TheVariants.UnlockFair = Releases l Exclusive true
-mutex_purpose fair l mutex_call.TheVariants.Bump = Bumps l Exclusive
+mutex_purpose fair l mutex_call.Lock = Enters l Exclusive Patient
+mutex_purpose fair l mutex_call.LockTimed = Enters l Exclusive Timed
+mutex_purpose fair l mutex_call.TryLock = Enters l Exclusive Try
+mutex_purpose fair l mutex_call.Unlock = Releases l Exclusive fair
+mutex_purpose fair l mutex_call.UnlockFair = Releases l Exclusive true
+mutex_purpose fair l mutex_call.Bump = Bumps l Exclusive
 
 -- the want of a thread that is to have a right
 abbrev pub wanted : Access → Want
@@ -98,43 +98,43 @@ semaphore_purpose l semaphore_call.Release = Releases l Shared false
 
 -- the goal of a call of a lock of this kind; nothing where the kind lacks the call
 abbrev pub purpose_of : Kind → Call → Option Purpose
-purpose_of kind.TheVariants.Mutex (call.TheVariants.Mutex l c) = Some (mutex_purpose false l c)
-purpose_of kind.TheVariants.Fair (call.TheVariants.Mutex l c) = Some (mutex_purpose true l c)
-purpose_of (kind.TheVariants.RwLock limit) (call.TheVariants.RwLock l c) = Some (rwlock_purpose l c)
-purpose_of (kind.TheVariants.Recursive limit) (call.TheVariants.RwLock l c) =
+purpose_of kind.Mutex (call.Mutex l c) = Some (mutex_purpose false l c)
+purpose_of kind.Fair (call.Mutex l c) = Some (mutex_purpose true l c)
+purpose_of (kind.RwLock limit) (call.RwLock l c) = Some (rwlock_purpose l c)
+purpose_of (kind.Recursive limit) (call.RwLock l c) =
     Some (rwlock_purpose l c)
-purpose_of kind.TheVariants.Condvar (call.TheVariants.Condvar l c) = Some (condvar_purpose l c)
-purpose_of kind.TheVariants.Once (call.TheVariants.Once l c) = Some (once_purpose l c)
-purpose_of (kind.TheVariants.Semaphore permits) (call.TheVariants.Semaphore l c) =
+purpose_of kind.Condvar (call.Condvar l c) = Some (condvar_purpose l c)
+purpose_of kind.Once (call.Once l c) = Some (once_purpose l c)
+purpose_of (kind.Semaphore permits) (call.Semaphore l c) =
     Some (semaphore_purpose l c)
-purpose_of kind.TheVariants.Mutex (call.TheVariants.RwLock l c) = None
-purpose_of kind.TheVariants.Mutex (call.TheVariants.Once l c) = None
-purpose_of kind.TheVariants.Mutex (call.TheVariants.Condvar l c) = None
-purpose_of kind.TheVariants.Fair (call.TheVariants.RwLock l c) = None
-purpose_of kind.TheVariants.Fair (call.TheVariants.Once l c) = None
-purpose_of kind.TheVariants.Fair (call.TheVariants.Condvar l c) = None
-purpose_of (kind.TheVariants.RwLock limit) (call.TheVariants.Mutex l c) = None
-purpose_of (kind.TheVariants.RwLock limit) (call.TheVariants.Once l c) = None
-purpose_of (kind.TheVariants.RwLock limit) (call.TheVariants.Condvar l c) = None
-purpose_of (kind.TheVariants.Recursive limit) (call.TheVariants.Mutex l c) = None
-purpose_of (kind.TheVariants.Recursive limit) (call.TheVariants.Once l c) = None
-purpose_of (kind.TheVariants.Recursive limit) (call.TheVariants.Condvar l c) = None
-purpose_of kind.TheVariants.Condvar (call.TheVariants.Mutex l c) = None
-purpose_of kind.TheVariants.Condvar (call.TheVariants.RwLock l c) = None
-purpose_of kind.TheVariants.Condvar (call.TheVariants.Once l c) = None
-purpose_of kind.TheVariants.Once (call.TheVariants.Mutex l c) = None
-purpose_of kind.TheVariants.Once (call.TheVariants.RwLock l c) = None
-purpose_of kind.TheVariants.Once (call.TheVariants.Condvar l c) = None
-purpose_of kind.TheVariants.Mutex (call.TheVariants.Semaphore l c) = None
-purpose_of kind.TheVariants.Fair (call.TheVariants.Semaphore l c) = None
-purpose_of (kind.TheVariants.RwLock limit) (call.TheVariants.Semaphore l c) = None
-purpose_of (kind.TheVariants.Recursive limit) (call.TheVariants.Semaphore l c) = None
-purpose_of kind.TheVariants.Condvar (call.TheVariants.Semaphore l c) = None
-purpose_of kind.TheVariants.Once (call.TheVariants.Semaphore l c) = None
-purpose_of (kind.TheVariants.Semaphore permits) (call.TheVariants.Mutex l c) = None
-purpose_of (kind.TheVariants.Semaphore permits) (call.TheVariants.RwLock l c) = None
-purpose_of (kind.TheVariants.Semaphore permits) (call.TheVariants.Once l c) = None
-purpose_of (kind.TheVariants.Semaphore permits) (call.TheVariants.Condvar l c) = None
+purpose_of kind.Mutex (call.RwLock l c) = None
+purpose_of kind.Mutex (call.Once l c) = None
+purpose_of kind.Mutex (call.Condvar l c) = None
+purpose_of kind.Fair (call.RwLock l c) = None
+purpose_of kind.Fair (call.Once l c) = None
+purpose_of kind.Fair (call.Condvar l c) = None
+purpose_of (kind.RwLock limit) (call.Mutex l c) = None
+purpose_of (kind.RwLock limit) (call.Once l c) = None
+purpose_of (kind.RwLock limit) (call.Condvar l c) = None
+purpose_of (kind.Recursive limit) (call.Mutex l c) = None
+purpose_of (kind.Recursive limit) (call.Once l c) = None
+purpose_of (kind.Recursive limit) (call.Condvar l c) = None
+purpose_of kind.Condvar (call.Mutex l c) = None
+purpose_of kind.Condvar (call.RwLock l c) = None
+purpose_of kind.Condvar (call.Once l c) = None
+purpose_of kind.Once (call.Mutex l c) = None
+purpose_of kind.Once (call.RwLock l c) = None
+purpose_of kind.Once (call.Condvar l c) = None
+purpose_of kind.Mutex (call.Semaphore l c) = None
+purpose_of kind.Fair (call.Semaphore l c) = None
+purpose_of (kind.RwLock limit) (call.Semaphore l c) = None
+purpose_of (kind.Recursive limit) (call.Semaphore l c) = None
+purpose_of kind.Condvar (call.Semaphore l c) = None
+purpose_of kind.Once (call.Semaphore l c) = None
+purpose_of (kind.Semaphore permits) (call.Mutex l c) = None
+purpose_of (kind.Semaphore permits) (call.RwLock l c) = None
+purpose_of (kind.Semaphore permits) (call.Once l c) = None
+purpose_of (kind.Semaphore permits) (call.Condvar l c) = None
 
 -- a call of a condition variable remembers its own steps, and what a notification did to it
 pub data CondvarMemory : Type 0 where
@@ -184,13 +184,13 @@ IsReleasing purpose released k = ⊥
 
 -- the rules of a lock of each kind
 abbrev pub rules_of : Kind → Rules
-rules_of kind.TheVariants.Mutex = record { sort = Mutex; limit = 0 }
-rules_of kind.TheVariants.Fair = record { sort = Mutex; limit = 0 }
-rules_of (kind.TheVariants.RwLock limit) = record { sort = Normal; limit = limit }
-rules_of (kind.TheVariants.Recursive limit) = record { sort = Recursive; limit = limit }
-rules_of kind.TheVariants.Condvar = record { sort = Condvar; limit = 0 }
-rules_of kind.TheVariants.Once = record { sort = Once; limit = 0 }
-rules_of (kind.TheVariants.Semaphore permits) = record { sort = Semaphore; limit = permits }
+rules_of kind.Mutex = record { sort = Mutex; limit = 0 }
+rules_of kind.Fair = record { sort = Mutex; limit = 0 }
+rules_of (kind.RwLock limit) = record { sort = Normal; limit = limit }
+rules_of (kind.Recursive limit) = record { sort = Recursive; limit = limit }
+rules_of kind.Condvar = record { sort = Condvar; limit = 0 }
+rules_of kind.Once = record { sort = Once; limit = 0 }
+rules_of (kind.Semaphore permits) = record { sort = Semaphore; limit = permits }
 
 -- ---------------------------------------------------------------- which cases a call is made of
 

@@ -4,7 +4,7 @@
 use Rattle.std.specs.Prelude.{ℕ, Option, Some, None, ◌<◌, ◌≤◌, ◌≡◌, ◌≢◌, ◌⊎◌, List, [], ◌∷◌, ◌++◌, length}
 use Rattle.std.specs.Prelude.{nat_le, Bool, true, false, if◌then◌else◌, ◌==◌, ◌*◌, ◌+◌, ◌↔◌}
 use Rattle.core_base.specs.declared.keys.Keys.{Keys}
-use Rattle.core_base.specs.declared.keys.Keys as keys
+use Rattle.core_base.specs.declared.keys.Keys.TheVariants as keys
 use Rattle.core_base.specs.declared.keys.Line.TheVariants.{Main}
 use Rattle.core_base.specs.Keys.{key_of}
 use Rattle.core_base.specs.declared.wants.Want.{Want}
@@ -12,14 +12,14 @@ use Rattle.core_base.specs.declared.wants.Want.TheVariants.{Exclusive}
 use Rattle.spec_locks.specs.declared.kinds.Kind.{Kind}
 use Rattle.spec_locks.specs.declared.calls.Call.{Call}
 use Rattle.spec_locks.specs.declared.calls.Turn.{Turn}
-use Rattle.spec_locks.specs.declared.calls.Turn as turn
+use Rattle.spec_locks.specs.declared.calls.Turn.TheVariants as turn
 use Rattle.spec_locks.specs.declared.calls.Step.{Step}
 use Rattle.spec_locks.specs.declared.outcomes.Answer.{Answer}
-use Rattle.spec_locks.specs.declared.outcomes.Answer as answer
+use Rattle.spec_locks.specs.declared.outcomes.Answer.TheVariants as answer
 use Rattle.spec_locks.specs.declared.outcomes.Outcome.{Outcome}
-use Rattle.spec_locks.specs.declared.outcomes.Outcome as outcome
+use Rattle.spec_locks.specs.declared.outcomes.Outcome.TheVariants as outcome
 use Rattle.spec_locks.specs.declared.outcomes.OnceState.{OnceState}
-use Rattle.spec_locks.specs.declared.outcomes.OnceState as once_state
+use Rattle.spec_locks.specs.declared.outcomes.OnceState.TheVariants as once_state
 use Rattle.spec_locks.specs.Calls.{lock_in}
 use Rattle.spec_locks.specs.Kinds.{is_plain_mutex}
 use Rattle.spec_locks.specs.Onces.{Phase, New, Poisoned, InProgress, Done, OnceCase, Start, Finish, Fail}
@@ -199,7 +199,7 @@ woken w t event u c = c
 
 -- a call that ends is forgotten; a wait's own release of its mutex may wake it
 abbrev pub unless_ended : Outcome → CallState → CallState
-unless_ended (outcome.TheVariants.End a) c = no_call
+unless_ended (outcome.End a) c = no_call
 unless_ended o c = c
 
 abbrev pub calls_after : LocksState → ℕ → Event → Outcome → ℕ → CallState
@@ -276,45 +276,45 @@ MayRefuse r s Exclusive = r.sort ≡ Mutex → IsBlocked r s Exclusive
 MayRefuse r s x = IsBlocked r s x
 
 abbrev pub EntersAnswer : LocksState → ℕ → CallState → ℕ → Want → Patience → Answer → Type 0
-EntersAnswer w t c l x Patient answer.TheVariants.Ok = Owns (w.locks l) t x × Gains w t c l x
-EntersAnswer w t c l x Timed answer.TheVariants.Yes = Owns (w.locks l) t x × Gains w t c l x
-EntersAnswer w t c l x Timed answer.TheVariants.No = (c.gave_up ≡ Some l) × Keeps w t c
-EntersAnswer w t c l x Try answer.TheVariants.Yes = Owns (w.locks l) t x × Gains w t c l x
-EntersAnswer w t c l x Try answer.TheVariants.No =
+EntersAnswer w t c l x Patient answer.Ok = Owns (w.locks l) t x × Gains w t c l x
+EntersAnswer w t c l x Timed answer.Yes = Owns (w.locks l) t x × Gains w t c l x
+EntersAnswer w t c l x Timed answer.No = (c.gave_up ≡ Some l) × Keeps w t c
+EntersAnswer w t c l x Try answer.Yes = Owns (w.locks l) t x × Gains w t c l x
+EntersAnswer w t c l x Try answer.No =
     MayRefuse (rules_at w l) (w.locks l) x × Keeps w t c
-EntersAnswer w t c l x how answer.TheVariants.ReadersFull = IsFull w l x × Keeps w t c
+EntersAnswer w t c l x how answer.ReadersFull = IsFull w l x × Keeps w t c
 EntersAnswer w t c l x how a = ⊥
 
 abbrev pub ConvertsAnswer : LocksState → ℕ → CallState → ℕ → Want → Want → Patience → Answer
     → Type 0
-ConvertsAnswer w t c l x y Patient answer.TheVariants.Ok = Replaces w t c l x y
-ConvertsAnswer w t c l x y Timed answer.TheVariants.Yes = Replaces w t c l x y
-ConvertsAnswer w t c l x y Timed answer.TheVariants.No = (c.gave_up ≡ Some l) × Keeps w t c
-ConvertsAnswer w t c l x y Try answer.TheVariants.Yes = Replaces w t c l x y
-ConvertsAnswer w t c l x y Try answer.TheVariants.No = (1 ≤ readers (w.locks l)) × Keeps w t c
+ConvertsAnswer w t c l x y Patient answer.Ok = Replaces w t c l x y
+ConvertsAnswer w t c l x y Timed answer.Yes = Replaces w t c l x y
+ConvertsAnswer w t c l x y Timed answer.No = (c.gave_up ≡ Some l) × Keeps w t c
+ConvertsAnswer w t c l x y Try answer.Yes = Replaces w t c l x y
+ConvertsAnswer w t c l x y Try answer.No = (1 ≤ readers (w.locks l)) × Keeps w t c
 ConvertsAnswer w t c l x y how a = ⊥
 
 abbrev pub BumpsAnswer : LocksState → ℕ → CallState → ℕ → Want → Answer → Type 0
-BumpsAnswer w t c l x answer.TheVariants.Ok = Owns (w.locks l) t x × Keeps w t c
-BumpsAnswer w t c l x answer.TheVariants.ReadersFull = IsFull w l x × Loses w t c l x
+BumpsAnswer w t c l x answer.Ok = Owns (w.locks l) t x × Keeps w t c
+BumpsAnswer w t c l x answer.ReadersFull = IsFull w l x × Loses w t c l x
 BumpsAnswer w t c l x a = ⊥
 
 -- a `Once` is done, or poisoned for a thread that isn't forced; or the thread's own run failed, and then the
 -- call says so alone
 abbrev pub CallsOnceAnswer : LocksState → ℕ → CallState → ℕ → Bool → Answer → Type 0
-CallsOnceAnswer w t c l forced answer.TheVariants.Ok =
+CallsOnceAnswer w t c l forced answer.Ok =
     (c.failed ≡ false) × ((w.locks l).phase ≡ Done) × Keeps w t c
-CallsOnceAnswer w t c l forced answer.TheVariants.Poisoned =
+CallsOnceAnswer w t c l forced answer.Poisoned =
     (c.failed ≡ false) × ((w.locks l).phase ≡ Poisoned) × (forced ≡ false) × Keeps w t c
-CallsOnceAnswer w t c l forced answer.TheVariants.Failed = (c.failed ≡ true) × Keeps w t c
+CallsOnceAnswer w t c l forced answer.Failed = (c.failed ≡ true) × Keeps w t c
 CallsOnceAnswer w t c l forced a = ⊥
 
 -- a wait with a deadline answers no only where it gave up
 abbrev pub AwaitsAnswer : LocksState → ℕ → CallState → ℕ → Bool → Bool → Answer → Type 0
-AwaitsAnswer w t c l forced false answer.TheVariants.Ok = ((w.locks l).phase ≡ Done) × Keeps w t c
-AwaitsAnswer w t c l forced true answer.TheVariants.Yes = ((w.locks l).phase ≡ Done) × Keeps w t c
-AwaitsAnswer w t c l forced true answer.TheVariants.No = (c.gave_up ≡ Some l) × Keeps w t c
-AwaitsAnswer w t c l forced timed answer.TheVariants.Poisoned =
+AwaitsAnswer w t c l forced false answer.Ok = ((w.locks l).phase ≡ Done) × Keeps w t c
+AwaitsAnswer w t c l forced true answer.Yes = ((w.locks l).phase ≡ Done) × Keeps w t c
+AwaitsAnswer w t c l forced true answer.No = (c.gave_up ≡ Some l) × Keeps w t c
+AwaitsAnswer w t c l forced timed answer.Poisoned =
     ((w.locks l).phase ≡ Poisoned) × (forced ≡ false) × Keeps w t c
 AwaitsAnswer w t c l forced timed a = ⊥
 
@@ -333,11 +333,11 @@ abbrev pub ShowsOther : LockState → ℕ → Type 0
 ShowsOther s m = (s.shown ≢ None) × (s.shown ≢ Some m)
 
 abbrev pub WaitsAnswer : LocksState → ℕ → CallState → ℕ → ℕ → Bool → Answer → Type 0
-WaitsAnswer w t c l m false answer.TheVariants.Ok = IsNotified c.recalls × HasAgain w t c
-WaitsAnswer w t c l m true answer.TheVariants.Notified = IsNotified c.recalls × HasAgain w t c
-WaitsAnswer w t c l m true answer.TheVariants.TimedOut =
+WaitsAnswer w t c l m false answer.Ok = IsNotified c.recalls × HasAgain w t c
+WaitsAnswer w t c l m true answer.Notified = IsNotified c.recalls × HasAgain w t c
+WaitsAnswer w t c l m true answer.TimedOut =
     (c.gave_up ≡ Some l) × (IsNotified c.recalls → ⊥) × HasAgain w t c
-WaitsAnswer w t c l m timed answer.TheVariants.TwoMutexes =
+WaitsAnswer w t c l m timed answer.TwoMutexes =
     (c.released ≡ false) × ShowsOther (w.locks l) m × Keeps w t c
 WaitsAnswer w t c l m timed a = ⊥
 
@@ -351,9 +351,9 @@ abbrev pub HasMovedSome : ℕ → CondvarMemory → Type 0
 HasMovedSome number recalls = (m : ℕ) × (recalls ≡ HasMoved m number)
 
 abbrev pub NotifiesAnswer : LocksState → ℕ → CallState → ℕ → Bool → Answer → Type 0
-NotifiesAnswer w t c l false answer.TheVariants.Yes = HasMovedSome 1 c.recalls × Keeps w t c
-NotifiesAnswer w t c l false answer.TheVariants.No = MovedNobody (w.locks l) c.recalls × Keeps w t c
-NotifiesAnswer w t c l true (answer.TheVariants.Number number) =
+NotifiesAnswer w t c l false answer.Yes = HasMovedSome 1 c.recalls × Keeps w t c
+NotifiesAnswer w t c l false answer.No = MovedNobody (w.locks l) c.recalls × Keeps w t c
+NotifiesAnswer w t c l true (answer.Number number) =
     ((number ≡ 0) × MovedNobody (w.locks l) c.recalls × Keeps w t c)
     ⊎ ((number ≢ 0) × HasMovedSome number c.recalls × Keeps w t c)
 NotifiesAnswer w t c l all a = ⊥
@@ -361,7 +361,7 @@ NotifiesAnswer w t c l all a = ⊥
 -- an answer is true of the state in which it is given
 abbrev pub AnswerHolds : Option Purpose → LocksState → ℕ → CallState → Answer → Type 0
 AnswerHolds (Some (Enters l x how)) w t c a = EntersAnswer w t c l x how a
-AnswerHolds (Some (Releases l x fair)) w t c answer.TheVariants.Ok = Loses w t c l x
+AnswerHolds (Some (Releases l x fair)) w t c answer.Ok = Loses w t c l x
 AnswerHolds (Some (Converts l x y how)) w t c a = ConvertsAnswer w t c l x y how a
 AnswerHolds (Some (Bumps l x)) w t c a = BumpsAnswer w t c l x a
 AnswerHolds (Some (CallsOnce l forced)) w t c a = CallsOnceAnswer w t c l forced a
@@ -372,26 +372,26 @@ AnswerHolds purpose w t c a = ⊥
 
 -- the outcome told agrees with the state that its step led to; c is its call with this step in it
 abbrev pub Agrees : ℕ → CallState → Outcome → LocksState → Type 0
-Agrees t c outcome.TheVariants.NotNow v = ⊥
-Agrees t c outcome.TheVariants.Step v = Unit {0}
-Agrees t c outcome.TheVariants.Sleep v = (l : ℕ) × (1 ≤ standing t (v.locks l))
-Agrees t c (outcome.TheVariants.Closure state) v = (l : ℕ) × ((v.locks l).phase ≡ InProgress t)
-Agrees t c (outcome.TheVariants.End a) v =
+Agrees t c outcome.NotNow v = ⊥
+Agrees t c outcome.Step v = Unit {0}
+Agrees t c outcome.Sleep v = (l : ℕ) × (1 ≤ standing t (v.locks l))
+Agrees t c (outcome.Closure state) v = (l : ℕ) × ((v.locks l).phase ≡ InProgress t)
+Agrees t c (outcome.End a) v =
     AnswerHolds c.purpose v t c a × ((l : ℕ) → HasTakenNobody (v.locks l) t)
 
 -- how far a `Once` has come, as a closure is told
 abbrev pub state_told : Phase → OnceState
-state_told New = once_state.TheVariants.New
-state_told Poisoned = once_state.TheVariants.Poisoned
-state_told (InProgress runner) = once_state.TheVariants.InProgress
-state_told Done = once_state.TheVariants.Done
+state_told New = once_state.New
+state_told Poisoned = once_state.Poisoned
+state_told (InProgress runner) = once_state.InProgress
+state_told Done = once_state.Done
 
 -- a thread is told to run its closure exactly where its run of a `Once` begins, and what the run
 -- found
 abbrev pub Begins : LocksState → Event → Outcome → Type 0
 Begins w (AtLock l (OfOnce (Start forced))) o =
-    o ≡ outcome.TheVariants.Closure (state_told (w.locks l).phase)
-Begins w event (outcome.TheVariants.Closure state) = ⊥
+    o ≡ outcome.Closure (state_told (w.locks l).phase)
+Begins w event (outcome.Closure state) = ⊥
 Begins w event o = Unit {0}
 
 -- ---------------------------------------------------------------- steps
@@ -424,8 +424,8 @@ pub record MayBegin (w : LocksState) (t : ℕ) (c : Call) : Type 0 where
 -- the sections are free
 abbrev pub AreFree : LocksState → Option Keys → Type 0
 AreFree w None = Unit {0}
-AreFree w (Some (keys.TheVariants.One key)) = w.inside key ≡ None
-AreFree w (Some (keys.TheVariants.Two first second)) =
+AreFree w (Some (keys.One key)) = w.inside key ≡ None
+AreFree w (Some (keys.Two first second)) =
     (w.inside first ≡ None) × (w.inside second ≡ None)
 
 -- a thread goes on with its call: it is awake, its closure is over, and the sections that it enters
@@ -461,17 +461,17 @@ pub record MayBeLate (w : LocksState) (t : ℕ) : Type 0 where
 
 -- whether a turn is possible
 abbrev pub MayTurn : LocksState → ℕ → Turn → Type 0
-MayTurn w t (turn.TheVariants.Begin c) = MayBegin w t c
-MayTurn w t turn.TheVariants.Go = MayGo w t
-MayTurn w t turn.TheVariants.Spin = (w.stances t).may_spin ≡ true
-MayTurn w t turn.TheVariants.Late = MayBeLate w t
-MayTurn w t turn.TheVariants.Ok = (w.stances t).in_closure ≡ true
-MayTurn w t turn.TheVariants.Err = (w.stances t).in_closure ≡ true
+MayTurn w t (turn.Begin c) = MayBegin w t c
+MayTurn w t turn.Go = MayGo w t
+MayTurn w t turn.Spin = (w.stances t).may_spin ≡ true
+MayTurn w t turn.Late = MayBeLate w t
+MayTurn w t turn.Ok = (w.stances t).in_closure ≡ true
+MayTurn w t turn.Err = (w.stances t).in_closure ≡ true
 
 -- no lock changes, and of the calls that of one thread alone
 pub record Stays (w : LocksState) (t : ℕ) (c : CallState) (o : Outcome)
     (v : LocksState) : Type 0 where
-  pub told : o ≡ outcome.TheVariants.Step
+  pub told : o ≡ outcome.Step
   pub locks : (l : ℕ) → v.locks l ≡ w.locks l
   pub calls : (u : ℕ) → v.calls u ≡ putting w.calls t c u
 
@@ -504,16 +504,16 @@ pub record Looks (w : LocksState) (t : ℕ) (o : Outcome) (v : LocksState) : Typ
 
 -- the effect of a turn: a call begins, goes on, looks once more, or is late, or its closure has answered
 abbrev pub Does : LocksState → ℕ → Turn → Outcome → LocksState → Type 0
-Does w t (turn.TheVariants.Begin c) o v = Stays w t (new_call (purpose_at w c) (rights_in w t)) o v
-Does w t turn.TheVariants.Spin o v = Looks w t o v
-Does w t turn.TheVariants.Late o v = Stays w t (record (w.calls t) { late = true }) o v
-Does w t turn.TheVariants.Go o v = GoesOn w t o v
-Does w t turn.TheVariants.Ok o v = Closes w t Finish o v
-Does w t turn.TheVariants.Err o v = Closes w t Fail o v
+Does w t (turn.Begin c) o v = Stays w t (new_call (purpose_at w c) (rights_in w t)) o v
+Does w t turn.Spin o v = Looks w t o v
+Does w t turn.Late o v = Stays w t (record (w.calls t) { late = true }) o v
+Does w t turn.Go o v = GoesOn w t o v
+Does w t turn.Ok o v = Closes w t Finish o v
+Does w t turn.Err o v = Closes w t Fail o v
 
 -- nothing happens
 abbrev pub IsRefused : LocksState → Outcome → LocksState → Type 0
-IsRefused w o v = (o ≡ outcome.TheVariants.NotNow) × (v ≡ w)
+IsRefused w o v = (o ≡ outcome.NotNow) × (v ≡ w)
 
 -- a turn does what it does exactly where it is possible
 abbrev pub Turned : LocksState → ℕ → Turn → Outcome → LocksState → Type 0
@@ -526,7 +526,7 @@ SectionChanges before t now =
     (now ≡ before) ⊎ (((before ≡ None) × (now ≡ Some t)) ⊎ ((before ≡ Some t) × (now ≡ None)))
 
 abbrev pub is_closure : Outcome → Bool
-is_closure (outcome.TheVariants.Closure state) = true
+is_closure (outcome.Closure state) = true
 is_closure o = false
 
 -- threads and locks stay as many, locks of their kinds, and sections are those of the threads inside
@@ -536,10 +536,10 @@ pub record KeepsOrder (w : LocksState) (t : ℕ) (o : Outcome) (v : LocksState) 
   pub kinds : (l : ℕ) → v.kinds l ≡ w.kinds l
   pub sections : (key : ℕ) → SectionChanges (w.inside key) t (v.inside key)
   -- the thread is told that it sleeps exactly where it does
-  pub told : o ≢ outcome.TheVariants.NotNow → (o ≡ outcome.TheVariants.Sleep)
+  pub told : o ≢ outcome.NotNow → (o ≡ outcome.Sleep)
       ↔ ((v.stances t).asleep ≡ true)
   -- A closure is told exactly to a thread that runs it.
-  pub runs : o ≢ outcome.TheVariants.NotNow → is_closure o ≡ (v.stances t).in_closure
+  pub runs : o ≢ outcome.NotNow → is_closure o ≡ (v.stances t).in_closure
 
 -- ---------------------------------------------------------------- the other threads
 
@@ -566,9 +566,9 @@ HeedsItsTime w t = (w.stances t).asleep ≡ true → (w.calls t).late ≡ true
 -- a try to lock a mutex, or to write, ends as its thread goes on
 abbrev pub TriesEnd : LocksState → Step → Outcome → Type 0
 TriesEnd w s o = (l : ℕ) → (w.calls s.thread).purpose ≡ Some (Enters l Exclusive Try)
-    → s.turn ≡ turn.TheVariants.Go
-    → (o ≡ outcome.TheVariants.End answer.TheVariants.Yes)
-    ⊎ (o ≡ outcome.TheVariants.End answer.TheVariants.No)
+    → s.turn ≡ turn.Go
+    → (o ≡ outcome.End answer.Yes)
+    ⊎ (o ≡ outcome.End answer.No)
 
 -- a thread inside the section notifies all, and so is about to move each thread that is there
 pub record IsBeingEmptied (w : LocksState) (c : ℕ) : Type 0 where
@@ -587,7 +587,7 @@ pub record ShowsWaiters (w : LocksState) (c : ℕ) : Type 0 where
 
 -- a step leaves the other threads as they are
 pub record LeavesOthers (w : LocksState) (t : ℕ) (v : LocksState) : Type 0 where
-  -- they stand as they did, but for a sleeper that this thread wakes
+  -- waiters stand as they did, but for a sleeper that this thread wakes
   pub others : (u : ℕ) → u ≢ t → (v.stances u ≡ w.stances u)
       ⊎ (((w.stances u).asleep ≡ true) × MayWake w t u)
   -- nobody sleeps with a mutex that it is to release

@@ -31,9 +31,9 @@ pub record Role : Type 0 where
   -- the line whose waiters it has seen, since it gave way, and hasn't taken yet
   pub wakes : Option Line
   -- the thread has taken in this section the threads that it was to take
-  pub carries : Bool
+  pub has_taken : Bool
   -- the thread has taken them, none of its own rights bars the way, and it is to let them go
-  pub covers : Bool
+  pub owes_taken : Bool
   -- where it has seen nobody, inside that section
   pub empty : Option Line
   -- the want for which the thread was woken
@@ -42,22 +42,22 @@ pub record Role : Type 0 where
   pub claims : Option Claim
   -- inside the main section: it has set the parked bit of a mutex that somebody owned, and is to
   -- bring waiters
-  pub brings : Bool
+  pub will_bring : Bool
   -- the thread has brought waiters to a mutex that nobody owned, has one of them in hand, and is yet to set
   -- the bit; or it has cleared the bit of a `Once` beside its waiters, and is yet to take them
-  pub sets : Bool
+  pub bit_pending : Bool
 
 abbrev pub idle : Role
 idle = record {
   inside = None;
   wakes = None;
-  carries = false;
-  covers = false;
+  has_taken = false;
+  owes_taken = false;
   empty = None;
   retries = None;
   claims = None;
-  brings = false;
-  sets = false;
+  will_bring = false;
+  bit_pending = false;
 }
 
 pub record Site : Type 0 where
@@ -148,12 +148,12 @@ StandsIn s t (Some Second) = s.aside ≡ Some t
 
 -- t is to wake the next of the main line, or has it in hand, or is it
 abbrev pub IsDebtorRole : Sort → Role → Type 0
-IsDebtorRole sort d = (d.wakes ≡ Some Main) ⊎ ((d.covers ≡ true) ⊎ (counts_some sort d.retries ≡ true))
+IsDebtorRole sort d = (d.wakes ≡ Some Main) ⊎ ((d.owes_taken ≡ true) ⊎ (counts_some sort d.retries ≡ true))
 
 -- a thread that is yet to set the bit has one of those that it has brought in hand, or is to take those of
 -- which it has seen the bit
 abbrev pub LooksAfter : Sort → Role → Type 0
-LooksAfter sort d = (d.covers ≡ true) ⊎ ((sort ≡ Once) × (d.wakes ≡ Some Main))
+LooksAfter sort d = (d.owes_taken ≡ true) ⊎ ((sort ≡ Once) × (d.wakes ≡ Some Main))
 
 -- ---------------------------------------------------------------- invariants between steps
 
@@ -163,28 +163,28 @@ pub record IsSite (r : Rules) (s : Site) : Type 0 where
   pub alone : (t u : ℕ) (m : Line) → (s.role t).inside ≡ Some m → (s.role u).inside ≡ Some m
       → t ≡ u
   -- a waiter implies its bit, or somebody that is yet to set it, or to take the waiters
-  pub parked : s.lock.queue ≢ [] → (s.parked ≡ true) ⊎ ((t : ℕ) × ((s.role t).sets ≡ true))
+  pub parked : s.lock.queue ≢ [] → (s.parked ≡ true) ⊎ ((t : ℕ) × ((s.role t).bit_pending ≡ true))
   pub aside_parked : s.lock.aside ≢ None → s.aside_parked ≡ true
   -- a thread that has seen nobody is inside that section, and nobody has come
   pub emptied : (t : ℕ) (m : Line) → (s.role t).empty ≡ Some m
       → ((s.role t).inside ≡ Some m) × IsEmpty s.lock m
   -- a thread that took waiters of the main line has one in hand that passes the turn on, unless none is left
-  pub covered : (t : ℕ) → (s.role t).covers ≡ true
-      → ((s.role t).inside ≡ Some Main) × ((s.role t).carries ≡ true)
+  pub covered : (t : ℕ) → (s.role t).owes_taken ≡ true
+      → ((s.role t).inside ≡ Some Main) × ((s.role t).has_taken ≡ true)
       × ((s.lock.queue ≢ []) → (u : ℕ) × (counts_taken r.sort t (s.lock.taken u) ≡ true))
   -- a thread that holds others in hand has taken them in this section
-  pub carried : (u : ℕ) (h : Taken) → s.lock.taken u ≡ Some h → (s.role h.by).carries ≡ true
+  pub carried : (u : ℕ) (h : Taken) → s.lock.taken u ≡ Some h → (s.role h.by).has_taken ≡ true
   -- a thread that is to bring waiters does so to a mutex, is inside, and the bit stays
-  pub brought : (t : ℕ) → (s.role t).brings ≡ true
+  pub brought : (t : ℕ) → (s.role t).will_bring ≡ true
       → ((s.role t).inside ≡ Some Main) × (s.parked ≡ true) × (r.sort ≡ Mutex)
-  pub setting : (t : ℕ) → (s.role t).sets ≡ true → LooksAfter r.sort (s.role t)
+  pub setting : (t : ℕ) → (s.role t).bit_pending ≡ true → LooksAfter r.sort (s.role t)
   pub held : (t : ℕ) (c : Claim) → (s.role t).claims ≡ Some c → Holds s.lock t c
   -- a thread that stands in a line, or is in hand, doesn't try again
   pub unwoken : (t : ℕ) → 1 ≤ standing t s.lock → (s.role t).retries ≡ None
   -- once full, noted
   pub full : is_full r s.lock ≡ true → s.filled ≡ true
   -- nobody is forgotten, nor a thread that is to be brought
-  pub main : (s.lock.queue ≢ []) ⊎ ((t : ℕ) × ((s.role t).brings ≡ true)) → IsOpen r.sort s.lock
+  pub main : (s.lock.queue ≢ []) ⊎ ((t : ℕ) × ((s.role t).will_bring ≡ true)) → IsOpen r.sort s.lock
       → s.filled ≡ false
       → (t : ℕ) × IsDebtorRole r.sort (s.role t)
   pub second : s.lock.aside ≢ None → readers s.lock ≡ 0
@@ -228,17 +228,17 @@ seen_second parked = if parked then Some Second else None
 -- a thread that has the next ones in hand gives way without another look
 abbrev pub role_giving_way : Site → Role → Option Claim → Role
 role_giving_way s d claims = record d
-    { wakes = if d.covers then d.wakes else seen_main s.parked; claims = claims }
+    { wakes = if d.owes_taken then d.wakes else seen_main s.parked; claims = claims }
 
 abbrev pub found : Line → Bool → Option Line
 found m none_left = if none_left then Some m else None
 
 abbrev pub taking_main : Bool → LockState → Role → Role
-taking_main covers now d =
+taking_main owes_taken now d =
     record d {
       wakes = None;
-      carries = true;
-      covers = covers;
+      has_taken = true;
+      owes_taken = owes_taken;
       empty = found Main (is_empty now.queue);
     }
 
@@ -267,10 +267,10 @@ once_parked case parked = parked
 
 abbrev pub role_after_once : OnceCase → Site → Role → Role
 role_after_once (Start forced) s d = record d { retries = None; claims = Some Runs }
-role_after_once Finish s d = record d { wakes = seen_main s.parked; sets = s.parked; claims = Some Ran }
-role_after_once Fail s d = record d { wakes = seen_main s.parked; sets = s.parked; claims = None }
+role_after_once Finish s d = record d { wakes = seen_main s.parked; bit_pending = s.parked; claims = Some Ran }
+role_after_once Fail s d = record d { wakes = seen_main s.parked; bit_pending = s.parked; claims = None }
 role_after_once (Rest wanted forced) s d = record d { retries = None; empty = None }
-role_after_once TakeAll s d = record d { wakes = None; sets = false; carries = true }
+role_after_once TakeAll s d = record d { wakes = None; bit_pending = false; has_taken = true }
 
 -- the thread's doing after a case; now is the lock then
 abbrev pub case_role : Sort → Site → LockState → LockCase → Role → Role
@@ -286,10 +286,10 @@ case_role sort s now Aside d = record d { retries = None; empty = None }
 case_role sort s now (TakeFirst x) d = taking_main true now d
 case_role sort s now (TakePicked start) d = taking_main (not (keeps_more start)) now d
 case_role sort s now (TakeAside u) d =
-    record d { wakes = None; carries = true; empty = Some Second }
+    record d { wakes = None; has_taken = true; empty = Some Second }
 case_role sort s now Wake d = d
 case_role sort s now (HandOff x successor) d =
-    record d { covers = false; claims = None; brings = false; sets = false }
+    record d { owes_taken = false; claims = None; will_bring = false; bit_pending = false }
 case_role sort s now Late d = record d { empty = late_found now d.inside }
 case_role sort s now Rollback d = role_giving_way s d (fallen s.lock.pending)
 case_role sort s now (OfOnce case) d = role_after_once case s d
@@ -328,21 +328,21 @@ is_main Second = false
 abbrev pub leaves : Role → Role
 leaves d = record d {
   inside = None;
-  carries = false;
-  covers = false;
+  has_taken = false;
+  owes_taken = false;
   empty = None;
-  brings = false;
-  sets = false;
+  will_bring = false;
+  bit_pending = false;
 }
 
 -- a thread that takes one of those that it brings, and moves more, has the bit to set yet
 abbrev pub bringing : List Queued → List Queued → Role → Role
 bringing taken moved d = record d {
-  carries = true;
-  covers = not (is_empty taken);
+  has_taken = true;
+  owes_taken = not (is_empty taken);
   empty = None;
-  brings = false;
-  sets = not (is_empty taken) && not (is_empty moved);
+  will_bring = false;
+  bit_pending = not (is_empty taken) && not (is_empty moved);
 }
 
 abbrev pub with_role : Site → ℕ → Role → Site
@@ -361,20 +361,20 @@ after_deed r (Mark Second) s t = record s { aside_parked = true }
 after_deed r (Clear Main) s t =
     record s {
       parked = false;
-      role = putting s.role t (record (s.role t) { empty = None; brings = false });
+      role = putting s.role t (record (s.role t) { empty = None; will_bring = false });
     }
 after_deed r (Clear Second) s t =
     record s {
       aside_parked = false;
-      role = putting s.role t (record (s.role t) { empty = None; brings = false });
+      role = putting s.role t (record (s.role t) { empty = None; will_bring = false });
     }
 after_deed r (FindNobody m) s t =
     with_role s t (record
-    (s.role t) { wakes = None; carries = true; covers = is_main m; empty = Some m })
+    (s.role t) { wakes = None; has_taken = true; owes_taken = is_main m; empty = Some m })
 after_deed r MarkBrought s t =
-    record s { parked = true; role = putting s.role t (record (s.role t) { sets = false }) }
+    record s { parked = true; role = putting s.role t (record (s.role t) { bit_pending = false }) }
 after_deed r MarkOwned s t =
-    record s { parked = true; role = putting s.role t (record (s.role t) { brings = true }) }
+    record s { parked = true; role = putting s.role t (record (s.role t) { will_bring = true }) }
 after_deed r (Bring taken moved) s t = record s {
   lock = record s.lock { queue = s.lock.queue ++ moved; taken = taking t taken s.lock.taken };
   role = putting s.role t (bringing taken moved (s.role t));
@@ -397,33 +397,33 @@ KeepsOwned s t (Some x) = Owns s t x
 
 abbrev pub OnceFits : OnceCase → Site → Role → Type 0
 OnceFits (Start forced) s d = Unit {0}
-OnceFits Finish s d = (d.wakes ≡ None) × (d.sets ≡ false)
-OnceFits Fail s d = (d.wakes ≡ None) × (d.sets ≡ false)
+OnceFits Finish s d = (d.wakes ≡ None) × (d.bit_pending ≡ false)
+OnceFits Fail s d = (d.wakes ≡ None) × (d.bit_pending ≡ false)
 OnceFits (Rest wanted forced) s d =
-    (d.inside ≡ Some Main) × (s.parked ≡ true) × (d.wakes ≡ None) × (d.covers ≡ false)
-OnceFits TakeAll s d = (d.inside ≡ Some Main) × (d.carries ≡ false)
+    (d.inside ≡ Some Main) × (s.parked ≡ true) × (d.wakes ≡ None) × (d.owes_taken ≡ false)
+OnceFits TakeAll s d = (d.inside ≡ Some Main) × (d.has_taken ≡ false)
 
 abbrev pub CaseFits : Rules → Site → ℕ → LockCase → Role → Type 0
 CaseFits r s t (Enter x) d = (d.retries ≡ None) ⊎ (d.retries ≡ Some x)
 CaseFits r s t Pend d = Unit {0}
 CaseFits r s t Settle d = Unit {0}
 CaseFits r s t (Leave x) d = d.wakes ≡ None
-CaseFits r s t (Convert x y) d = (d.wakes ≡ None) × (d.carries ≡ false) × (t < length s.lock.shared)
+CaseFits r s t (Convert x y) d = (d.wakes ≡ None) × (d.has_taken ≡ false) × (t < length s.lock.shared)
 CaseFits r s t (Park x) d =
-    (d.inside ≡ Some Main) × (s.parked ≡ true) × (d.wakes ≡ None) × (d.covers ≡ false)
+    (d.inside ≡ Some Main) × (s.parked ≡ true) × (d.wakes ≡ None) × (d.owes_taken ≡ false)
 CaseFits r s t Aside d = (d.inside ≡ Some Second) × (s.aside_parked ≡ true) × (d.wakes ≡ None)
 CaseFits r s t (TakeFirst x) d =
-    (d.inside ≡ Some Main) × (d.carries ≡ false) × (d.wakes ≢ Some Second)
+    (d.inside ≡ Some Main) × (d.has_taken ≡ false) × (d.wakes ≢ Some Second)
 CaseFits r s t (TakePicked start) d =
-    (d.inside ≡ Some Main) × (d.carries ≡ false) × (d.wakes ≢ Some Second)
+    (d.inside ≡ Some Main) × (d.has_taken ≡ false) × (d.wakes ≢ Some Second)
     × KeepsOwned s.lock t start
 CaseFits r s t (TakeAside u) d =
-    (d.inside ≡ Some Second) × (d.carries ≡ false) × (d.wakes ≢ Some Main)
+    (d.inside ≡ Some Second) × (d.has_taken ≡ false) × (d.wakes ≢ Some Main)
 CaseFits r s t Wake d = ⊥
 CaseFits r s t (HandOff x successor) d =
-    (d.inside ≡ Some Main) × (d.covers ≡ true) × (d.retries ≡ None) × (d.wakes ≡ None)
-CaseFits r s t Late d = StandsIn s.lock t d.inside × (d.carries ≡ false)
-CaseFits r s t Rollback d = (d.wakes ≡ None) × (d.carries ≡ false)
+    (d.inside ≡ Some Main) × (d.owes_taken ≡ true) × (d.retries ≡ None) × (d.wakes ≡ None)
+CaseFits r s t Late d = StandsIn s.lock t d.inside × (d.has_taken ≡ false)
+CaseFits r s t Rollback d = (d.wakes ≡ None) × (d.has_taken ≡ false)
 CaseFits r s t (OfOnce case) d = OnceFits case s d
 CaseFits r s t (OfCondvar case) d = Unit {0}
 CaseFits r s t (SeeOwner owned) d = Unit {0}
@@ -432,7 +432,7 @@ CaseFits r s t (SeeOwner owned) d = Unit {0}
 -- or the lock is full
 abbrev pub MayEnd : Rules → LockState → Role → Type 0
 MayEnd r s d =
-    (d.inside ≡ None) × (d.wakes ≡ None) × (d.carries ≡ false)
+    (d.inside ≡ None) × (d.wakes ≡ None) × (d.has_taken ≡ false)
     × ((counts_some r.sort d.retries ≡ true) → is_full r s ≡ true)
 
 -- each waiter that is brought is brought once, stood nowhere and didn't try again
@@ -446,20 +446,20 @@ Needed r End s t = MayEnd r s.lock (s.role t)
 Needed r (In m) s t = ((u : ℕ) → (s.role u).inside ≢ Some m) × ((s.role t).inside ≡ None)
     × ((s.role t).empty ≡ None)
 Needed r Out s t = ((s.role t).inside ≢ None) × ((s.role t).wakes ≡ None)
-    × ((s.role t).sets ≡ false)
+    × ((s.role t).bit_pending ≡ false)
 Needed r (Mark m) s t = Unit {0}
 Needed r (Clear m) s t = (s.role t).empty ≡ Some m
 Needed r (FindNobody m) s t =
-    ((s.role t).inside ≡ Some m) × ((s.role t).carries ≡ false) × IsEmpty s.lock m
+    ((s.role t).inside ≡ Some m) × ((s.role t).has_taken ≡ false) × IsEmpty s.lock m
     × ((s.role t).wakes ≡ None ⊎ (s.role t).wakes ≡ Some m)
 Needed r MarkBrought s t = Unit {0}
 Needed r MarkOwned s t =
     ((s.role t).inside ≡ Some Main) × (IsOpen r.sort s.lock → ⊥) × (r.sort ≡ Mutex)
 Needed r (Bring taken moved) s t =
-    (r.sort ≡ Mutex) × ((s.role t).inside ≡ Some Main) × ((s.role t).carries ≡ false)
+    (r.sort ≡ Mutex) × ((s.role t).inside ≡ Some Main) × ((s.role t).has_taken ≡ false)
     × ((s.role t).wakes ≡ None) × ((s.role t).retries ≡ None)
     × Apart s (taken ++ moved) × KnowsAll Mutex (taken ++ moved)
-    × (taken ≡ [] → (s.role t).brings ≡ true)
+    × (taken ≡ [] → (s.role t).will_bring ≡ true)
 Needed r (Send all) s t = (r.sort ≡ Condvar) × ((s.role t).inside ≡ Some Main)
 Needed r LeaveLine s t =
     (r.sort ≡ Condvar) × Needs r Late s.lock t × CaseFits r s t Late (s.role t)

@@ -25,7 +25,7 @@ module _ (r : Rules) (s : Site) (t : ℕ) where
     (
       ap (λ (d : Role). d.inside) is,
       ap (λ (d : Role). d.wakes) is,
-      ap (λ (d : Role). d.carries) is,
+      ap (λ (d : Role). d.has_taken) is,
       λ some. absurd (let g : false ≡ true =
           sym none ∙ sym (ap (λ (d : Role). counts_some r.sort d.retries) is) ∙ some in cc),
     ),
@@ -40,7 +40,7 @@ module _ (r : Rules) (s : Site) (t : ℕ) where
     put_same s.role t _ ∙ ap (λ (d : Role). record d { inside = Some Main }) is,
   )
 
-  pub goes_out : (d : Role) → s.role t ≡ d → d.inside ≡ Some Main → d.wakes ≡ None → d.sets ≡ false
+  pub goes_out : (d : Role) → s.role t ≡ d → d.inside ≡ Some Main → d.wakes ≡ None → d.bit_pending ≡ false
       → s.lock.taken t ≡ None
       → AllNeeded r (Out ∷ []) s t × ((after_all r (Out ∷ []) s t).role t ≡ leaves d)
   goes_out d is i w b free = (
@@ -48,7 +48,7 @@ module _ (r : Rules) (s : Site) (t : ℕ) where
       (
         λ e. let g : Some Main ≡ None = sym (ap (λ (d : Role). d.inside) is ∙ i) ∙ e in cc,
         ap (λ (d : Role). d.wakes) is ∙ w,
-        ap (λ (d : Role). d.sets) is ∙ b,
+        ap (λ (d : Role). d.bit_pending) is ∙ b,
       ),
       tt,
     ),
@@ -56,10 +56,10 @@ module _ (r : Rules) (s : Site) (t : ℕ) where
   )
 
   pub clears : (d : Role) → s.role t ≡ d → d.empty ≡ Some Main → AllNeeded r (Clear Main ∷ []) s t
-      × ((after_all r (Clear Main ∷ []) s t).role t ≡ record d { empty = None; brings = false })
+      × ((after_all r (Clear Main ∷ []) s t).role t ≡ record d { empty = None; will_bring = false })
   clears d is e = (
     (ap (λ (d : Role). d.empty) is ∙ e, tt),
-    put_same s.role t _ ∙ ap (λ (d : Role). record d { empty = None; brings = false }) is,
+    put_same s.role t _ ∙ ap (λ (d : Role). record d { empty = None; will_bring = false }) is,
   )
 
   -- inside the section of the line where it stands it leaves that, and finds whether nobody is left
@@ -74,8 +74,8 @@ module _ (r : Rules) (s : Site) (t : ℕ) where
     (
       (
         omega (arith, stands),
-        subst (λ n. StandsIn s.lock t n × ((s.role t).carries ≡ false))
-            (sym (ap (λ (d : Role). d.inside) is)) (beside, ap (λ (d : Role). d.carries) is),
+        subst (λ n. StandsIn s.lock t n × ((s.role t).has_taken ≡ false))
+            (sym (ap (λ (d : Role). d.inside) is)) (beside, ap (λ (d : Role). d.has_taken) is),
       ),
       tt,
     ),

@@ -39,20 +39,20 @@ module _ {x : StepView} where
     }
 
     pub goes_out : (any : Bool) → ◌≡◌ {A = Option Line × Option Bool × Option Hand}
-        ((location_of x).inside, (location_of x).carries, (location_of x).hand) (
+        ((location_of x).inside, (location_of x).has_taken, (location_of x).hand) (
           Some m,
           in_hand any false,
           None,
         )
         → AreLeaving (x.deeds None Done)
-        → location_then x Done ≡ record (location_of x) { inside = None; carries = None }
+        → location_then x Done ≡ record (location_of x) { inside = None; has_taken = None }
         → ((r : Rules) (s : Site) (t : ℕ) → s.lock.taken t ≡ None → hears r s t None Done)
         → GoesOut x hears m (wakes_taken any Normal)
     goes_out any e deeds goes may = record {
       any = any;
       notes = refl;
       inside = ap (λ p. p.0) e;
-      carries = ap (λ p. p.1) e;
+      has_taken = ap (λ p. p.1) e;
       free = ap (λ p. p.2) e;
       deeds = deeds;
       goes = goes;

@@ -11,7 +11,7 @@ use Rattle.core_base.specs.declared.wants.Want.TheVariants as w
 use Rattle.core_base.specs.Keys.{key_of}
 use Rattle.steps_base.specs.declared.acts.Act.{Act}
 use Rattle.steps_base.specs.declared.acts.Act.TheVariants.{Enter, Leave, Sleep}
-use Rattle.steps_base.specs.declared.acts.Wakes as wakes
+use Rattle.steps_base.specs.declared.acts.Wakes.TheVariants as wakes
 use Rattle.steps_base.specs.Profiles.{Profile, Hand, Of, hand}
 use Rattle.steps_base.specs.Rows.{is_acting, taken_in_row, IsWaiting, HasClaimed, WasHanded, LetsIn, LetsInAt}
 use Rattle.steps_base.specs.Rows.{IsDebtorIn, HasDebt, RowLooksAfter, RowIsLate, RowPromises, IsDowngrade}
@@ -42,7 +42,7 @@ pub record IsOther (l : ℕ) (a : Act) : Type 0 where
 
 abbrev pub GoesAs : ℕ → Act → Going → Type 0
 GoesAs l a (Into m) = a ≡ Enter (One (key_of l m))
-GoesAs l a HandsOver = a ≡ Leave (One (2 * l)) (wakes.TheVariants.All note.HandOff)
+GoesAs l a HandsOver = a ≡ Leave (One (2 * l)) (wakes.All note.HandOff)
 GoesAs l a Asleep = a ≡ Sleep
 GoesAs l a Other = IsOther l a
 
@@ -142,7 +142,7 @@ owns_alone (Some (Has w.Exclusive)) = true
 owns_alone c = false
 
 abbrev pub is_debtor_in : Sort → Role → Line → Bool
-is_debtor_in sort d Main = is_line Main d.wakes || (d.covers || counts_some sort d.retries)
+is_debtor_in sort d Main = is_line Main d.wakes || (d.owes_taken || counts_some sort d.retries)
 is_debtor_in sort d Second = is_line Second d.wakes
 
 abbrev pub has_debt : Sort → Profile → Purpose → Line → Bool
@@ -226,9 +226,9 @@ keeps_row sort row q g =
     && (implies (is_line Second row.stands) (pends row.role.claims)
     && (implies (is_line Second row.owes) (has_readers sort)
     && (implies (sleeps g) (is_waiting row || was_handed sort row q)
-    && implies (told row.carries) (hands_over g && is_line Main row.role.inside))))))))
+    && implies (told row.has_taken) (hands_over g && is_line Main row.role.inside))))))))
 
--- ---------------------------------------------------------------- it says so
+-- ---------------------------------------------------------------- what the test says
 
 pub both : (a b : Bool) → (a && b) ≡ true → (a ≡ true) × (b ≡ true)
 both true true h = (refl, refl)
@@ -444,7 +444,7 @@ wakes_so s q b c h = absurd cc
 asleep_is : (l : ℕ) (a : Act) (g : Going) → GoesAs l a g → a ≡ Sleep → sleeps g ≡ true
 asleep_is l a Asleep goes e = refl
 asleep_is l a (Into m) goes e = let f : Enter (One (key_of l m)) ≡ Sleep = sym goes ∙ e in absurd cc
-asleep_is l a HandsOver goes e = let f : Leave (One (2 * l)) (wakes.TheVariants.All note.HandOff) ≡ Sleep =
+asleep_is l a HandsOver goes e = let f : Leave (One (2 * l)) (wakes.All note.HandOff) ≡ Sleep =
     sym goes ∙ e in absurd cc
 asleep_is l a Other goes e = absurd (goes.awake e)
 
@@ -470,7 +470,7 @@ into_is l a (Into Main) Main goes e = refl
 into_is l a (Into Second) Second goes e = refl
 into_is l a (Into Main) Second goes e = absurd (apart l (sym goes ∙ e))
 into_is l a (Into Second) Main goes e = absurd (apart l (sym e ∙ goes))
-into_is l a HandsOver m goes e = let f : Leave (One (2 * l)) (wakes.TheVariants.All note.HandOff)
+into_is l a HandsOver m goes e = let f : Leave (One (2 * l)) (wakes.All note.HandOff)
     ≡ Enter (One (key_of l m)) = sym goes ∙ e in absurd cc
 into_is l a Asleep m goes e = let f : Sleep ≡ Enter (One (key_of l m)) = sym goes ∙ e in absurd cc
 into_is l a Other m goes e = absurd (goes.elsewhere m e)
@@ -482,7 +482,7 @@ acts_so l a Asleep goes = rw goes refl
 acts_so l a Other goes = goes.acts
 
 over_so : (l : ℕ) (a : Act) (g : Going) → GoesAs l a g → hands_over g ≡ true
-    → a ≡ Leave (One (2 * l)) (wakes.TheVariants.All note.HandOff)
+    → a ≡ Leave (One (2 * l)) (wakes.All note.HandOff)
 over_so l a HandsOver goes h = goes
 over_so l a g goes h = absurd cc
 
@@ -511,7 +511,7 @@ claimed_so s c x h = absurd cc
 told_is : (x : Option Bool) → x ≡ Some true → told x ≡ true
 told_is x e = rw e refl
 
--- ------------------------------------------------------- so a row that passes the test owes what is promised
+-- ------------------------------------------------------- a row that passes the test owes what is promised
 
 module _ (sort : Sort) (l : ℕ) (row : Profile) (a : Act) (g : Going) (own : lock_for (row.purpose l) ≡ l)
     (goes : GoesAs l a g) where
@@ -556,7 +556,7 @@ module _ (sort : Sort) (l : ℕ) (row : Profile) (a : Act) (g : Going) (own : lo
   debtor_is : (m : Line) → IsDebtorIn sort row.role m → is_debtor_in sort row.role m ≡ true
   debtor_is Main (inl e) = or_l _ _ (is_the_line Main row.role.wakes e)
   debtor_is Main (inr (inl e)) = or_r (is_line Main row.role.wakes) _ (or_l _ _ e)
-  debtor_is Main (inr (inr e)) = or_r (is_line Main row.role.wakes) _ (or_r row.role.covers _ e)
+  debtor_is Main (inr (inr e)) = or_r (is_line Main row.role.wakes) _ (or_r row.role.owes_taken _ e)
   debtor_is Second e = is_the_line Second row.role.wakes e
 
   debt_so : (m : Line) → has_debt sort row (row.purpose l) m ≡ true → HasDebt sort l row m
@@ -611,7 +611,7 @@ module _ (sort : Sort) (l : ℕ) (row : Profile) (a : Act) (g : Going) (own : lo
     aside : implies (is_line Second row.stands) (pends row.role.claims) ≡ true
     second : implies (is_line Second row.owes) (has_readers sort) ≡ true
     asleep : implies (sleeps g) (is_waiting row || was_handed sort row (row.purpose l)) ≡ true
-    tells : implies (told row.carries) (hands_over g && is_line Main row.role.inside) ≡ true
+    tells : implies (told row.has_taken) (hands_over g && is_line Main row.role.inside) ≡ true
 
   parts : keeps_row sort row (row.purpose l) g ≡ true → Tested
   parts h =
@@ -688,7 +688,7 @@ module _ (sort : Sort) (l : ℕ) (row : Profile) (a : Act) (g : Going) (own : lo
       | inr x ↦ inr (handed_so x)
     ];
     tells = λ e. let k : (hands_over g ≡ true) × (is_line Main row.role.inside ≡ true) =
-        both _ _ (so _ _ t.tells (told_is row.carries e))
+        both _ _ (so _ _ t.tells (told_is row.has_taken e))
         in (over_so l a g goes k.0, line_is Main row.role.inside k.1);
     late = is_late;
     may_be_late = λ m e s timed. line_is m row.late_line

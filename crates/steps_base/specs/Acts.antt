@@ -9,9 +9,9 @@ use Rattle.steps_base.specs.declared.acts.Act.TheVariants.{Sleep, Closure, End}
 use Rattle.steps_base.specs.declared.acts.Check.{Check}
 use Rattle.steps_base.specs.declared.acts.Check.TheVariants.{WordIs, Blocked, ReadersLeft, Unfinished}
 use Rattle.steps_base.specs.declared.acts.Wakes.{Wakes}
-use Rattle.steps_base.specs.declared.acts.Wakes as wakes
+use Rattle.steps_base.specs.declared.acts.Wakes.TheVariants as wakes
 use Rattle.spec_locks.specs.declared.outcomes.Outcome.{Outcome}
-use Rattle.spec_locks.specs.declared.outcomes.Outcome as outcome
+use Rattle.spec_locks.specs.declared.outcomes.Outcome.TheVariants as outcome
 use Rattle.spec_locks.specs.Codes.{bars, leaves_readers, leaves_unfinished}
 
 abbrev pub holds : Check → ℕ → Bool
@@ -22,7 +22,7 @@ holds (Unfinished forced) word = leaves_unfinished forced word
 
 -- each thread that was taken is woken
 abbrev pub wakes_taken : Bool → Note → Wakes
-wakes_taken any note = if any then wakes.TheVariants.All note else wakes.TheVariants.Nobody
+wakes_taken any note = if any then wakes.All note else wakes.Nobody
 
 abbrev pub is_there : Option Want → Bool
 is_there None = false
@@ -40,7 +40,7 @@ takes_effect op seen = true
 
 -- the outcome told to a thread that is about to do this
 abbrev pub outcome_of : Act → Outcome
-outcome_of (End answer) = outcome.TheVariants.End answer
-outcome_of Sleep = outcome.TheVariants.Sleep
-outcome_of (Closure state) = outcome.TheVariants.Closure state
-outcome_of _ = outcome.TheVariants.Step
+outcome_of (End answer) = outcome.End answer
+outcome_of Sleep = outcome.Sleep
+outcome_of (Closure state) = outcome.Closure state
+outcome_of _ = outcome.Step

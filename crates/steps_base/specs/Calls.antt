@@ -73,7 +73,7 @@ ComesTo r l row event s s2 t (End answer) = IsTrueAnswer r l row event s s2 t an
 
 -- the effect on the lock of a step with these deeds
 abbrev pub event_at : ℕ → Profile → List Deed → Event
-event_at l row ds = event_of l row.carries ds
+event_at l row ds = event_of l row.has_taken ds
 
 -- a thread at a place with this row does the deeds, and its call comes to what the next row or the
 -- answer says

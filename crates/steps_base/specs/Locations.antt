@@ -12,7 +12,7 @@ pub record Location : Type 0 where
   pub stands : Option Line
   pub waits : Option Want
   -- whether it has anybody in hand, and if so, whether it has handed the lock over
-  pub carries : Option Bool
+  pub has_taken : Option Bool
   -- in whose hand it is
   pub hand : Option Hand
 
@@ -25,7 +25,7 @@ location_by row = record {
   inside = row.role.inside;
   stands = row.stands;
   waits = want_in_line row.stands row.wants;
-  carries = row.carries;
+  has_taken = row.has_taken;
   hand = row.hand;
 }
 

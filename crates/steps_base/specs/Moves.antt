@@ -18,7 +18,7 @@ use Rattle.steps_base.specs.declared.acts.Reply.{Reply}
 use Rattle.steps_base.specs.declared.acts.Reply.TheVariants.{Done, Value, Parked, Took, Picked, Removed}
 use Rattle.steps_base.specs.declared.acts.Reply.TheVariants.{TakenBy, HandedBy, Woken}
 use Rattle.steps_base.specs.declared.acts.Wakes.{Wakes}
-use Rattle.steps_base.specs.declared.acts.TakeWhich as whom
+use Rattle.steps_base.specs.declared.acts.TakeWhich.TheVariants as whom
 use Rattle.steps_base.specs.Acts.{holds, takes_effect, wakes_taken, any_picked}
 use Rattle.steps_base.specs.Profiles.{Profile, blank_row, hand, in_hand}
 use Rattle.steps_base.specs.Locations.{Location, location_by, nowhere}
@@ -138,7 +138,7 @@ pub record Picks (x : StepView) (hears : Hears) (start : Option Want) : Type 0 w
       → x.deeds None (Picked n y none_left) ≡ Case (TakePicked start) ∷ []
   pub goes : (n : ℕ) (y : Option Want) (none_left : Bool)
       → location_then x (Picked n y none_left)
-      ≡ record (inside_of Main) { carries = in_hand (any_picked n y) false }
+      ≡ record (inside_of Main) { has_taken = in_hand (any_picked n y) false }
   pub may : (r : Rules) (s : Site) (t n : ℕ) (y : Option Want) (none_left : Bool)
       → MayTake r s start Main None none_left → hears r s t None (Picked n y none_left)
 
@@ -149,7 +149,7 @@ pub record TakesAside (x : StepView) (hears : Hears) : Type 0 where
       → x.deeds u (Took any none_left) ≡ takes_aside u ∷ []
   pub goes : (any none_left : Bool)
       → location_then x (Took any none_left)
-      ≡ record (inside_of Second) { carries = in_hand any false }
+      ≡ record (inside_of Second) { has_taken = in_hand any false }
   pub may : (r : Rules) (s : Site) (t : ℕ) (any none_left : Bool)
       → hears r s t s.lock.aside (Took any none_left)
 
@@ -167,10 +167,10 @@ pub record GoesOut (x : StepView) (hears : Hears) (m : Line) (wakes : Wakes) : T
   pub any : Bool
   pub notes : wakes ≡ wakes_taken any Normal
   pub inside : (location_of x).inside ≡ Some m
-  pub carries : (location_of x).carries ≡ in_hand any false
+  pub has_taken : (location_of x).has_taken ≡ in_hand any false
   pub free : (location_of x).hand ≡ None
   pub deeds : AreLeaving (x.deeds None Done)
-  pub goes : location_then x Done ≡ record (location_of x) { inside = None; carries = None }
+  pub goes : location_then x Done ≡ record (location_of x) { inside = None; has_taken = None }
   pub may : (r : Rules) (s : Site) (t : ℕ) → s.lock.taken t ≡ None → hears r s t None Done
 
 -- ---------------------------------------------------------------- a right is handed over
@@ -197,21 +197,21 @@ pub record HandsOver (x : StepView) (op : Op) : Type 0 where
   pub successor : Option Want
   pub any : Bool
   pub none_left : Bool
-  pub was : location_of x ≡ record (inside_of Main) { carries = in_hand any false }
+  pub was : location_of x ≡ record (inside_of Main) { has_taken = in_hand any false }
   pub deeds : (whom : Option ℕ) (seen : ℕ) → takes_effect op seen ≡ true
       → x.deeds whom (Value seen)
       ≡ Case (HandOff right (heir_of whom successor)) ∷ bit_left none_left ∷ []
   pub goes : (seen : ℕ) → takes_effect op seen ≡ true
-      → location_then x (Value seen) ≡ record (inside_of Main) { carries = in_hand any true }
+      → location_then x (Value seen) ≡ record (inside_of Main) { has_taken = in_hand any true }
   pub fails : (whom : Option ℕ) (seen : ℕ) → takes_effect op seen ≡ false
       → x.deeds whom (Value seen) ≡ []
   pub stays : (seen : ℕ) → takes_effect op seen ≡ false → location_then x (Value seen) ≡ location_of x
 
--- then it goes out of the section, and tells them
+-- the thread goes out of the section then, and tells them
 pub record TellsHanded (x : StepView) (hears : Hears) (wakes : Wakes) : Type 0 where
   pub any : Bool
   pub notes : wakes ≡ wakes_taken any HandOffNote
-  pub was : location_of x ≡ record (inside_of Main) { carries = in_hand any true }
+  pub was : location_of x ≡ record (inside_of Main) { has_taken = in_hand any true }
   pub deeds : AreLeaving (x.deeds None Done)
   pub goes : location_then x Done ≡ nowhere
   pub may : (r : Rules) (s : Site) (t : ℕ) → s.lock.taken t ≡ None → hears r s t None Done
@@ -244,9 +244,9 @@ MovesByAct l recursive x hears (act.Enter keys) =
     (m : Line) × (keys ≡ One (key_of l m)) × GoesIn x hears m Done
 MovesByAct l recursive x hears (act.Park k key check want) =
     (m : Line) × (k ≡ l) × (key ≡ key_of l m) × Parks x hears m check want
-MovesByAct l recursive x hears (act.Take key (whom.TheVariants.Picked start b)) =
+MovesByAct l recursive x hears (act.Take key (whom.Picked start b)) =
     (key ≡ key_of l Main) × (b ≡ recursive) × Picks x hears start
-MovesByAct l recursive x hears (act.Take key whom.TheVariants.First) =
+MovesByAct l recursive x hears (act.Take key whom.First) =
     (key ≡ key_of l Second) × TakesAside x hears
 MovesByAct l recursive x hears (act.Remove key) = (m : Line) × (key ≡ key_of l m) × LeavesLine x hears m
 MovesByAct l recursive x hears (act.Leave keys wakes) =

@@ -33,7 +33,7 @@ pub record Profile : Type 0 where
   -- in which line it stands
   pub stands : Option Line
   -- whether it has anybody in hand, and if so, whether it has handed the lock over
-  pub carries : Option Bool
+  pub has_taken : Option Bool
   -- in whose hand it is
   pub hand : Option Hand
   -- the want of the thread, where it waits
@@ -65,7 +65,7 @@ abbrev pub blank_row : Profile
 blank_row = record {
   role = idle;
   stands = None;
-  carries = None;
+  has_taken = None;
   hand = None;
   wants = None;
   owes = None;
@@ -85,7 +85,7 @@ blank_row = record {
 
 -- the thread brings no waiters: only a call of a condition variable does
 abbrev pub bringing_nobody : Profile → Profile
-bringing_nobody row = record row { role = record row.role { brings = false; sets = false } }
+bringing_nobody row = record row { role = record row.role { will_bring = false; bit_pending = false } }
 
 -- the thread by which it was taken from a queue of the lock, where it was not handed the lock since
 abbrev pub taken_from : Option Hand → Option Want → Bool → Option Taken

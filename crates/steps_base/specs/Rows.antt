@@ -8,7 +8,7 @@ use Rattle.core_base.specs.declared.wants.Want.TheVariants.{Exclusive, Shared}
 use Rattle.core_base.specs.Keys.{key_of}
 use Rattle.steps_base.specs.declared.acts.Act.{Act}
 use Rattle.steps_base.specs.declared.acts.Act.TheVariants.{Rest, Enter, Leave, Sleep, End}
-use Rattle.steps_base.specs.declared.acts.Wakes as wakes
+use Rattle.steps_base.specs.declared.acts.Wakes.TheVariants as wakes
 use Rattle.steps_base.specs.Profiles.{Profile, hand, taken_from}
 use Rattle.spec_locks.specs.Headline.{WakesWaiters, want_of}
 use Rattle.spec_locks.specs.Locks.{Sort, Taken, Knows, Once}
@@ -136,8 +136,8 @@ pub record RowPromises (sort : Sort) (l : ℕ) (row : Profile) (a : Act) : Type 
       → RowLooksAfter sort l row a m
   pub asleep : a ≡ Sleep → IsWaiting row ⊎ WasHanded sort l row
   -- a thread that has handed the lock over leaves its section next, and tells so
-  pub tells : row.carries ≡ Some true
-      → (a ≡ Leave (One (2 * l)) (wakes.TheVariants.All note.HandOff)) × (row.role.inside ≡ Some Main)
+  pub tells : row.has_taken ≡ Some true
+      → (a ≡ Leave (One (2 * l)) (wakes.All note.HandOff)) × (row.role.inside ≡ Some Main)
   pub late : (m : Line) → row.late_line ≡ Some m → RowIsLate sort l row a m
   pub may_be_late : (m : Line) → row.stands ≡ Some m → a ≡ Sleep → IsTimed (Some (row.purpose l)) row.recalls
       l

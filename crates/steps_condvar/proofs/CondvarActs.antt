@@ -139,7 +139,7 @@ module _ (c m : ℕ) (timed : Bool) where
       took : (any none_left : Bool)
           → beside_next (in_wait m timed
           (At (released st (in_unlock (if none_left then At (unlock.Clear any) else At (unlock.Leave any))))))
-          ≡ record (location_by (mutex_side (releasing st unlock.Take))) { carries = in_hand any false }
+          ≡ record (location_by (mutex_side (releasing st unlock.Take))) { has_taken = in_hand any false }
       took any true = refl
       took any false = refl
 
@@ -154,7 +154,7 @@ module _ (c m : ℕ) (timed : Bool) where
   releases st (unlock.Leave any) = inr (inl (
     refl,
     record { deeds = tt; goes = after_there st },
-    record { any = any; notes = refl; inside = refl; carries = refl; deeds = tt; goes = after_beside st },
+    record { any = any; notes = refl; inside = refl; has_taken = refl; deeds = tt; goes = after_beside st },
   ))
 
   -- ---------------------------------------------------------------- the lock after it
@@ -251,12 +251,12 @@ module _ (c m : ℕ) (timed : Bool) where
     leaves true = inr (inl (
       refl,
       record { deeds = tt; goes = refl },
-      record { any = false; notes = refl; inside = refl; carries = refl; deeds = tt; goes = refl },
+      record { any = false; notes = refl; inside = refl; has_taken = refl; deeds = tt; goes = refl },
     ))
     leaves false = inr (inl (
       refl,
       record { deeds = tt; goes = refl },
-      record { any = false; notes = refl; inside = refl; carries = refl; deeds = tt; goes = refl },
+      record { any = false; notes = refl; inside = refl; has_taken = refl; deeds = tt; goes = refl },
     ))
 
     locks : (at : LockAt) → IsLockOf at → CondvarMoves c m [] (locking at) (condvar_act c (locking at))
@@ -383,7 +383,7 @@ module _ (c m : ℕ) (timed : Bool) where
   waits_so (wait.GiveUpMoved none_left) reached = inr (inl (
     refl,
     record { deeds = tt; goes = refl },
-    record { any = false; notes = refl; inside = refl; carries = refl; deeds = tt; goes = refl },
+    record { any = false; notes = refl; inside = refl; has_taken = refl; deeds = tt; goes = refl },
   ))
   waits_so (wait.Lock timed_out (mutex.Lock entry.Lock retries at)) reached =
       locks timed_out retries at reached.1
@@ -404,7 +404,7 @@ module _ (c m : ℕ) (q : List Queued) where
 
   -- inside both sections, with those that it has taken, if any, in hand
   abbrev both_with : Bool → Location
-  both_with any = record (inside_of Main) { carries = in_hand any false }
+  both_with any = record (inside_of Main) { has_taken = in_hand any false }
 
   leaving_is : (all any : Bool) (number : ℕ)
       → location_by (mutex_side (notifying all (notify.Leave any number))) ≡ both_with any
@@ -450,8 +450,8 @@ module _ (c m : ℕ) (q : List Queued) where
     marked_beside seen true = refl
     marked_beside seen false = refl
 
-    sets : (expected seen : ℕ) → Stays all (notify.Set expected) (Value seen)
-    sets expected seen = (
+    bit_pending : (expected seen : ℕ) → Stays all (notify.Set expected) (Value seen)
+    bit_pending expected seen = (
       record { deeds = tt; goes = by_there (seen == expected) },
       record { deeds = deeds_by (seen == expected); goes = by_beside (seen == expected) },
     )
@@ -500,7 +500,7 @@ module _ (c m : ℕ) (q : List Queued) where
       deeds_at_condvar = refl;
       deeds_at_mutex = refl;
       stays = refl;
-      carries = leaving_is true false number;
+      has_taken = leaving_is true false number;
     },
   )
   moves_all false = (
@@ -511,7 +511,7 @@ module _ (c m : ℕ) (q : List Queued) where
       deeds_at_condvar = refl;
       deeds_at_mutex = refl;
       stays = all_there true number (nat_lt 1 number);
-      carries = all_beside number (nat_lt 1 number);
+      has_taken = all_beside number (nat_lt 1 number);
     },
   )
 
@@ -532,7 +532,7 @@ module _ (c m : ℕ) (q : List Queued) where
       record { deeds = tt; goes = marked_beside all seen (is_locked seen) },
     ),
   )
-  notifies_so all (notify.Set expected) = (inr refl, sets all expected)
+  notifies_so all (notify.Set expected) = (inr refl, bit_pending all expected)
   notifies_so true (notify.Move locked) = moves_all locked
   notifies_so false (notify.Move true) = (
     refl,
@@ -542,7 +542,7 @@ module _ (c m : ℕ) (q : List Queued) where
       deeds_at_condvar = refl;
       deeds_at_mutex = refl;
       stays = one_there false none_left;
-      carries = one_beside false none_left;
+      has_taken = one_beside false none_left;
     },
   )
   notifies_so false (notify.Move false) = inr (
@@ -552,7 +552,7 @@ module _ (c m : ℕ) (q : List Queued) where
       deeds_at_condvar = refl;
       deeds_at_mutex = refl;
       stays = one_there true none_left;
-      carries = one_beside true none_left;
+      has_taken = one_beside true none_left;
     },
   )
   notifies_so all (notify.Clear any) =
@@ -569,7 +569,7 @@ module _ (c m : ℕ) (q : List Queued) where
           any = any;
           notes = refl;
           inside = ap (λ (x : Location). x.inside) (leaving_is all any number);
-          carries = refl;
+          has_taken = refl;
           deeds = tt;
           goes = refl;
         },

@@ -289,11 +289,11 @@ module _ (c : CondvarSite) (t : ℕ) (site : IsCondvar c) where
     marks_at all v a true = record { stage = a.stage; listed = a.listed; names = a.names }
     marks_at all v a false = record { stage = a.stage; listed = a.listed; names = a.names }
 
-    sets : (all : Bool) (v expected : ℕ) → IsAt c t (Notify all m (notify.Set expected)) → (b : Bool)
+    bit_pending : (all : Bool) (v expected : ℕ) → IsAt c t (Notify all m (notify.Set expected)) → (b : Bool)
         → IsAt c t (Notify all m (marks v))
         → IsAtNext c t (in_notify all m (if b then At (notify.Move true) else At (marks v)))
-    sets all v expected a true next = record { stage = a.stage; listed = a.listed; names = a.names }
-    sets all v expected a false next = next
+    bit_pending all v expected a true next = record { stage = a.stage; listed = a.listed; names = a.names }
+    bit_pending all v expected a false next = next
 
     moves_first : (locked any : Bool) → IsAt c t (Notify false m (notify.Move locked)) → (b : Bool)
         → b ≡ is_empty (drop 1 c.waiters)
@@ -358,7 +358,7 @@ module _ (c : CondvarSite) (t : ℕ) (site : IsCondvar c) where
     notifies all (notify.Set expected) (reply.Value seen) a h =
         record {
           needed = tt;
-          next = sets all seen expected a (seen == expected) (marks_at all seen (record {
+          next = bit_pending all seen expected a (seen == expected) (marks_at all seen (record {
             stage = a.stage;
             listed = a.listed;
             names = a.names;
@@ -579,6 +579,6 @@ condvar_steps_code c t k p f is ne = leaves_word c t k p f is ne
 pub condvar_moves_fit : CondvarMovesFit
 condvar_moves_fit r all locked c s t m sort site aside a role =
     move_fits r all locked c s t m sort site aside a.stage (ap (λ (d : Role). d.inside) role)
-    (ap (λ (d : Role). d.carries) role)
-    (ap (λ (d : Role). d.wakes) role) (ap (λ (d : Role). d.retries) role) (λ e. ap (λ (d : Role). d.brings)
+    (ap (λ (d : Role). d.has_taken) role)
+    (ap (λ (d : Role). d.wakes) role) (ap (λ (d : Role). d.retries) role) (λ e. ap (λ (d : Role). d.will_bring)
     role ∙ e)

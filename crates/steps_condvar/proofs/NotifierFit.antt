@@ -61,27 +61,27 @@ module _ (r : Rules) (s : Site) (c : CondvarSite) (t m : ℕ) (sort : r.sort ≡
   marked all v is true = is
   marked all v is false = is
 
-  sets : (all : Bool) (expected v : ℕ) → s.role t ≡ inside → (b : Bool) → (b ≡ true → IsOpen r.sort s.lock
+  bit_pending : (all : Bool) (expected v : ℕ) → s.role t ≡ inside → (b : Bool) → (b ≡ true → IsOpen r.sort s.lock
       → ⊥)
       → AllNeeded r (if b then MarkOwned ∷ [] else []) s t
       × ((after_all r (if b then MarkOwned ∷ [] else []) s t).role t ≡ role_next all m (if b
       then next.At (notify.Move true) else next.At (marks v)))
-  sets all expected v is true owned = (
+  bit_pending all expected v is true owned = (
     ((ap (λ (d : Role). d.inside) is, owned refl, sort), tt),
-    put_same s.role t _ ∙ ap (λ (d : Role). record d { brings = true }) is,
+    put_same s.role t _ ∙ ap (λ (d : Role). record d { will_bring = true }) is,
   )
-  sets all expected v is false owned = (tt, marked all v is (is_locked v))
+  bit_pending all expected v is false owned = (tt, marked all v is (is_locked v))
 
   -- after a move
-  moved : (taken line : List Queued) (brings any more : Bool) → s.role t ≡ record inside { brings = brings }
+  moved : (taken line : List Queued) (will_bring any more : Bool) → s.role t ≡ record inside { will_bring = will_bring }
       → not (is_empty taken) ≡ any → not (is_empty line) ≡ more
       → putting s.role t (bringing taken line (s.role t)) t ≡ has_moved any (any && more)
-  moved taken line brings any more is e f = put_same s.role t _ ∙ (λ i. record (is i) {
-    carries = true;
-    covers = e i;
+  moved taken line will_bring any more is e f = put_same s.role t _ ∙ (λ i. record (is i) {
+    has_taken = true;
+    owes_taken = e i;
     empty = None;
-    brings = false;
-    sets = e i && f i;
+    will_bring = false;
+    bit_pending = e i && f i;
   })
 
   row_of : (any : Bool) (number : ℕ) → (number == 0) ≡ false → has_moved any false
@@ -98,7 +98,7 @@ module _ (r : Rules) (s : Site) (c : CondvarSite) (t m : ℕ) (sort : r.sort ≡
 
   left_row : (any : Bool) (b : Bool) → ((if b then inside else has_moved any false).inside ≡ Some Main)
       × ((if b then inside else has_moved any false).wakes ≡ None)
-      × ((if b then inside else has_moved any false).sets ≡ false)
+      × ((if b then inside else has_moved any false).bit_pending ≡ false)
       × ((if b then inside else has_moved any false).retries ≡ None)
   left_row any true = (refl, refl, refl, refl)
   left_row any false = (refl, refl, refl, refl)
@@ -133,13 +133,13 @@ module _ (r : Rules) (s : Site) (c : CondvarSite) (t m : ℕ) (sort : r.sort ≡
         (
           λ e. let g : Some Main ≡ None = sym (ap (λ (d : Role). d.inside) is ∙ x.0) ∙ e in cc,
           wakes,
-          ap (λ (d : Role). d.sets) is ∙ x.2,
+          ap (λ (d : Role). d.bit_pending) is ∙ x.2,
         ),
         (
           (
             ap (λ (d : Role). d.inside) (out h),
             ap (λ (d : Role). d.wakes) (out h) ∙ wakes,
-            ap (λ (d : Role). d.carries) (out h),
+            ap (λ (d : Role). d.has_taken) (out h),
             λ some. absurd (let f : false ≡ true = sym (ap (λ o. counts_some r.sort o) gone) ∙ some in cc),
           ),
           tt,
@@ -162,7 +162,7 @@ module _ (r : Rules) (s : Site) (c : CondvarSite) (t m : ℕ) (sort : r.sort ≡
     role = marked all seen is (is_locked seen);
   }
   notifies all (notify.Set expected) (Value seen) is h =
-      let d = sets all expected seen is (seen == expected) (λ e. is_owned r s sort (let g : seen ≡ expected =
+      let d = bit_pending all expected seen is (seen == expected) (λ e. is_owned r s sort (let g : seen ≡ expected =
       eqb-true seen expected e in subst (λ v. is_locked v ≡ true) (sym g ∙ h.0) h.1)) in
       record { needed = d.0; role = d.1 }
   notifies false (notify.Move false) (Took any none_left) is h =
@@ -198,7 +198,7 @@ module _ (r : Rules) (s : Site) (c : CondvarSite) (t m : ℕ) (sort : r.sort ≡
   notifies all (notify.Clear any) (Value seen) is h = record { needed = tt; role = is }
   notifies all (notify.MarkMoved number) (Value seen) is h = record {
     needed = (tt, tt);
-    role = put_same s.role t _ ∙ ap (λ (d : Role). record d { sets = false }) is
+    role = put_same s.role t _ ∙ ap (λ (d : Role). record d { bit_pending = false }) is
         ∙ row_of true number (not_none number h);
   }
   notifies all (notify.Leave any number) Done is h = record {

@@ -132,7 +132,7 @@ module _ (v : CondvarSite) (r : Rules) (s : Site) (t c m : ℕ) (site : IsCondva
       (λ rights. ap (λ b. record (condvar_call_by c m (Notify true m (notify.MarkMoved number)) rights)
       { recalls = if b then Saw m else HasMoved m number }) (not_none number some))
 
-  -- ---------------------------------------------------------------- its answer
+  -- ---------------------------------------------------------------- the answer
 
   unshown : IsInsideAt v t (Misses m) → v.shown ≢ Some m
   unshown stage = let k : condvars.StageHolds v t (Misses m) = subst (λ (i : Option Inside). IsAsInside v i)
@@ -216,7 +216,7 @@ pub notifies_tell : NotifiesTell
 notifies_tell v r s t c m all at told sort site a is h f reached = tells v r s t c m site all at told a h f
     reached
 
--- ---------------------------------------------------------------- its first look
+-- ---------------------------------------------------------------- the first look
 
 module _ (v : CondvarSite) (s : LockState) (t c : ℕ) where
   none_shown : (w : LocksState) (call : CallState) (all : Bool) → (w.locks c).shown ≡ None → call.recalls
@@ -391,12 +391,12 @@ module _ (c : CondvarSite) (t : ℕ) (site : IsCondvar c) where
   reaches (Notify all m notify.Hide) (Value seen) reached h a late = tt
   reaches (Notify all m notify.Mark) (Value seen) reached h a late = marks_reached all m seen (is_locked seen)
       refl
-  reaches (Notify all m (notify.Set expected)) (Value seen) reached h a late = sets (seen == expected)
+  reaches (Notify all m (notify.Set expected)) (Value seen) reached h a late = bit_pending (seen == expected)
     where
-      sets : (b : Bool) → IsReachedNext
+      bit_pending : (b : Bool) → IsReachedNext
           (in_notify all m (if b then At (notify.Move true) else At (marks seen)))
-      sets true = tt
-      sets false = marks_reached all m seen (is_locked seen) refl
+      bit_pending true = tt
+      bit_pending false = marks_reached all m seen (is_locked seen) refl
   reaches (Notify false m (notify.Move locked)) (Took any none_left) reached h a late =
       one_reached false any none_left m
   reaches (Notify false m (notify.Move locked)) (Requeued number none_left) reached h a late =

@@ -94,7 +94,7 @@ module _ (v : CondvarSite) (limit : ℕ) (s : Site) (t c m : ℕ) (timed : Bool)
   Tells at told event shown ds n = CallOfTwoFollows c m (place at) told event shown s.lock
       (after_all r ds s t).lock t n
 
-  -- ---------------------------------------------------------------- its release
+  -- ---------------------------------------------------------------- the release
 
   module _ (st : WaiterFate) where
     abbrev releasing : UnlockAt → CondvarPlace

@@ -83,7 +83,7 @@ module _ (limit : ℕ) (s : Site) (t m : ℕ) (h : IsSite (record { sort = Mutex
     left_mutex is without b e =
         put_same s.role t _
         ∙ (λ i. record (is i) {
-          wakes = if (is i).covers then (is i).wakes else seen_main (e i);
+          wakes = if (is i).owes_taken then (is i).wakes else seen_main (e i);
           claims = (sym (ap (λ c. if c then Some (Has Exclusive) else None) without)) i;
         })
 
@@ -113,7 +113,7 @@ module _ (limit : ℕ) (s : Site) (t m : ℕ) (h : IsSite (record { sort = Mutex
           (
             (
               ap (λ (d : Role). d.inside) is,
-              ap (λ (d : Role). d.carries) is,
+              ap (λ (d : Role). d.has_taken) is,
               e,
               inr (ap (λ (d : Role). d.wakes) is),
             ),
@@ -121,8 +121,8 @@ module _ (limit : ℕ) (s : Site) (t m : ℕ) (h : IsSite (record { sort = Mutex
           ),
           put_same s.role t _ ∙ ap (λ (d : Role). record d {
             wakes = None;
-            carries = true;
-            covers = true;
+            has_taken = true;
+            owes_taken = true;
             empty = Some Main;
           }) is
               ∙ ap (λ b. befell st (record carrying { empty = found Main b })) (sym left)
@@ -135,7 +135,7 @@ module _ (limit : ℕ) (s : Site) (t m : ℕ) (h : IsSite (record { sort = Mutex
               ((drop 1 s.lock.queue, e), nobody, tt),
               (
                 ap (λ (d : Role). d.inside) is,
-                ap (λ (d : Role). d.carries) is,
+                ap (λ (d : Role). d.has_taken) is,
                 λ second. let g : Some Main ≡ Some Second =
                     sym (ap (λ (d : Role). d.wakes) is) ∙ second in cc,
               ),
@@ -145,8 +145,8 @@ module _ (limit : ℕ) (s : Site) (t m : ℕ) (h : IsSite (record { sort = Mutex
           put_same s.role t _
               ∙ (λ i. record (is i) {
                 wakes = None;
-                carries = true;
-                covers = true;
+                has_taken = true;
+                owes_taken = true;
                 empty = found Main (sym f.left i);
               })
               ∙ took any none_left,
@@ -173,7 +173,7 @@ module _ (limit : ℕ) (s : Site) (t m : ℕ) (h : IsSite (record { sort = Mutex
         (
           λ e. let g : Some Main ≡ None = sym (ap (λ (d : Role). d.inside) is) ∙ e in cc,
           ap (λ (d : Role). d.wakes) is,
-          ap (λ (d : Role). d.sets) is,
+          ap (λ (d : Role). d.bit_pending) is,
         ),
         tt,
       );
@@ -238,7 +238,7 @@ module _ (limit : ℕ) (s : Site) (t m : ℕ) (h : IsSite (record { sort = Mutex
             ap (λ (d : Role). d.inside) is,
             w.1,
             ap (λ (d : Role). d.wakes) is,
-            ap (λ (d : Role). d.covers) is,
+            ap (λ (d : Role). d.owes_taken) is,
           ),
         ),
         tt,
@@ -259,7 +259,7 @@ module _ (limit : ℕ) (s : Site) (t m : ℕ) (h : IsSite (record { sort = Mutex
         (
           λ e. let g : Some Main ≡ None = sym (ap (λ (d : Role). d.inside) is) ∙ e in cc,
           ap (λ (d : Role). d.wakes) is,
-          ap (λ (d : Role). d.sets) is,
+          ap (λ (d : Role). d.bit_pending) is,
         ),
         tt,
       );
@@ -315,7 +315,7 @@ module _ (limit : ℕ) (s : Site) (t m : ℕ) (h : IsSite (record { sort = Mutex
       (
         λ e. let g : Some Main ≡ None = sym (ap (λ (d : Role). d.inside) is) ∙ e in cc,
         ap (λ (d : Role). d.wakes) is,
-        ap (λ (d : Role). d.sets) is,
+        ap (λ (d : Role). d.bit_pending) is,
       ),
       tt,
     ),

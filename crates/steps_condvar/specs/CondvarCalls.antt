@@ -87,7 +87,7 @@ abbrev pub look_event : ℕ → ℕ → Event
 look_event c seen = if seen == 0 then Nothing
     else AtLock c (OfCondvar (locks.Look (Some (mutex_shown seen))))
 
--- ---------------------------------------------------------------- its effect on the call
+-- ---------------------------------------------------------------- the effect on the call
 
 -- the state of a call at a place, by what its thread owns
 abbrev pub condvar_call_by : ℕ → ℕ → CondvarPlace → (ℕ → Rights) → CallState

@@ -151,11 +151,11 @@ pub record GoesInAtMutex (x : StepView) (hears : Hears) (told : Reply) : Type 0 
 -- a release takes the first, if anybody waits: it may be its own thread
 pub record TakesAtMutex (x : StepView) (hears : Hears) : Type 0 where
   pub inside : (location_of x).inside ≡ Some Main
-  pub empty_handed : (location_of x).carries ≡ None
+  pub empty_handed : (location_of x).has_taken ≡ None
   pub deeds : (whom : Option ℕ) (any none_left : Bool)
       → x.deeds whom (Took any none_left) ≡ take_deeds whom
   pub goes : (any none_left : Bool)
-      → location_then x (Took any none_left) ≡ record (location_of x) { carries = in_hand any false }
+      → location_then x (Took any none_left) ≡ record (location_of x) { has_taken = in_hand any false }
   pub may : (r : Rules) (s : Site) (t : ℕ) (whom : Option ℕ) (any none_left : Bool)
       → TakesFirst s whom any none_left
       → HasTakenNobody s.lock t → hears r s t whom (Took any none_left)
@@ -165,9 +165,9 @@ pub record GoesOutAtMutex (x : StepView) (wakes : Wakes) : Type 0 where
   pub any : Bool
   pub notes : wakes ≡ wakes_taken any Normal
   pub inside : (location_of x).inside ≡ Some Main
-  pub carries : (location_of x).carries ≡ in_hand any false
+  pub has_taken : (location_of x).has_taken ≡ in_hand any false
   pub deeds : AreLeaving (x.deeds None Done)
-  pub goes : location_then x Done ≡ record (location_of x) { inside = None; carries = None }
+  pub goes : location_then x Done ≡ record (location_of x) { inside = None; has_taken = None }
 
 -- ---------------------------------------------------------------- at both
 
@@ -180,8 +180,8 @@ pub record MovesWaiters (q : List Queued) (p : CondvarPlace) (all locked : Bool)
   pub deeds_at_mutex : deeds_at_mutex q p None told
       ≡ Bring (taken_of locked (moved_of all q)) (line_of locked (moved_of all q)) ∷ []
   pub stays : there_then p told ≡ there p
-  pub carries : location_then (move_at_mutex q p) told
-      ≡ record (inside_of Main) { carries = in_hand (not locked) false }
+  pub has_taken : location_then (move_at_mutex q p) told
+      ≡ record (inside_of Main) { has_taken = in_hand (not locked) false }
 
 -- the waiters moved, by how
 abbrev pub MovesBy : List Queued → CondvarPlace → Requeue → Type 0

@@ -20,16 +20,16 @@ use Rattle.steps_condvar.specs.CondvarSteps.{next_notify, notify_act}
 use Rattle.steps_condvar.specs.CondvarProfiles.{notify_row}
 
 -- the waiters that a notification takes, and those that it moves
-abbrev pub brings : Bool → Bool → List Queued → List Deed
-brings all locked q = Bring (taken_of locked (moved_of all q)) (line_of locked (moved_of all q))
+abbrev pub will_bring : Bool → Bool → List Queued → List Deed
+will_bring all locked q = Bring (taken_of locked (moved_of all q)) (line_of locked (moved_of all q))
     ∷ []
 
 abbrev pub beside_deeds : Bool → List Queued → NotifyAt → Reply → List Deed
 beside_deeds all q notify.Enter Done = In Main ∷ []
 beside_deeds all q (notify.Set expected) (Value seen) =
     if seen == expected then MarkOwned ∷ [] else []
-beside_deeds all q (notify.Move locked) (Took any none_left) = brings all locked q
-beside_deeds all q (notify.Move locked) (Requeued number none_left) = brings all locked q
+beside_deeds all q (notify.Move locked) (Took any none_left) = will_bring all locked q
+beside_deeds all q (notify.Move locked) (Requeued number none_left) = will_bring all locked q
 beside_deeds all q (notify.MarkMoved number) (Value seen) = MarkBrought ∷ []
 beside_deeds all q (notify.Leave any number) Done = Out ∷ End ∷ []
 beside_deeds all q at told = []

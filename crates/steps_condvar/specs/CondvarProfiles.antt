@@ -151,11 +151,11 @@ wait_row m (wait.Lock timed_out at) = mutex_row_beside (mutex_profile at)
 -- ---------------------------------------------------------------- a thread that notifies
 
 abbrev pub brings_to : Bool → Role
-brings_to locked = record inside { brings = locked }
+brings_to locked = record inside { will_bring = locked }
 
 -- the thread has taken the first, if any, and has the bit to set yet where it has moved others
 abbrev pub has_moved : Bool → Bool → Role
-has_moved any sets = record inside { carries = true; covers = any; sets = sets }
+has_moved any bit_pending = record inside { has_taken = true; owes_taken = any; bit_pending = bit_pending }
 
 abbrev pub inside_both : CondvarPhase → Role → CondvarRow
 inside_both stage role = record blank_condvar_row
@@ -314,8 +314,8 @@ owned_before p l rights = rights
 
 -- whether it has anybody in hand, a thread that waits for the mutex
 abbrev pub wait_carries : WaitAt → Option Bool
-wait_carries (wait.Release s at) = (mutex_profile at).carries
-wait_carries (wait.Lock timed_out at) = (mutex_profile at).carries
+wait_carries (wait.Release s at) = (mutex_profile at).has_taken
+wait_carries (wait.Lock timed_out at) = (mutex_profile at).has_taken
 wait_carries at = None
 
 abbrev pub notify_carries : NotifyAt → Option Bool
@@ -352,7 +352,7 @@ abbrev pub mutex_side : CondvarPlace → Profile
 mutex_side p = record profiles.blank_row {
   role = (condvar_row p).role;
   stands = in_line (condvar_row p).moved Main;
-  carries = carries_at_mutex p;
+  has_taken = carries_at_mutex p;
   hand = (condvar_row p).hand;
   wants = wants_at_mutex (condvar_row p).wants;
   owes = in_line (condvar_row p).owes_mutex Main;

@@ -3,11 +3,11 @@
 use Rattle.std.proofs.Common.{ℕ, Bool, true, false, Option, Some, None, if◌then◌else◌, ◌==◌, ◌&&◌, not, ◌≡◌}
 use Rattle.std.proofs.Common.{◌≢◌, ◌⊎◌, ◌+◌, ◌*◌, inl, inr, List, [], ◌∷◌, refl, sym, ◌∙◌, ap}
 use Rattle.core_base.specs.declared.keys.Keys.TheVariants.{One}
-use Rattle.core_base.specs.declared.ops.Op as op
+use Rattle.core_base.specs.declared.ops.Op.TheVariants as op
 use Rattle.core_base.specs.declared.wants.Want.TheVariants.{Exclusive}
 use Rattle.spec_locks.specs.declared.outcomes.Answer.TheVariants as answer
 use Rattle.spec_locks.specs.declared.outcomes.Outcome.TheVariants as outcome
-use Rattle.steps_base.specs.declared.acts.Act as act
+use Rattle.steps_base.specs.declared.acts.Act.TheVariants as act
 use Rattle.steps_base.specs.declared.acts.Next.{Next}
 use Rattle.steps_base.specs.declared.acts.Next.TheVariants as next
 use Rattle.steps_base.specs.Acts.{outcome_of}
@@ -49,8 +49,8 @@ decides l s = either (is_locked s) (s == 1)
   where
     either : (a b : Bool)
         → outcome_of
-        (if not a then act.TheVariants.Word l (op.TheVariants.Exchange s (s + 1)) else if b
-        then act.TheVariants.Word l (op.TheVariants.Exchange 1 3) else act.TheVariants.Enter
+        (if not a then act.Word l (op.Exchange s (s + 1)) else if b
+        then act.Word l (op.Exchange 1 3) else act.Enter
         (One (2 * l)))
         ≡ outcome.Step
     either false b = refl
@@ -97,7 +97,7 @@ module _ (limit l t : ℕ) (s : LockState) where
   }
 
   -- nothing happens to the lock
-  quiet : (at at2 : MutexPlace) (ds : List Deed) → AreOneCase ds → case_of (mutex_row at).carries ds ≡ None
+  quiet : (at at2 : MutexPlace) (ds : List Deed) → AreOneCase ds → case_of (mutex_row at).has_taken ds ≡ None
       → ((rights : ℕ → Rights) → call_by l (mutex_row at2) rights ≡ call_by l (mutex_row at) rights)
       → Rests l (next.At at2)
       → Tells at ds (next.At at2)
@@ -486,7 +486,7 @@ module _ (limit l t : ℕ) (s : LockState) where
   -- ---------------------------------------------------------------- steps that only lead elsewhere
 
   -- into a section, or a bit cleared
-  pub goes_to : (at at2 : MutexPlace) (d : Deed) → AreOneCase (d ∷ []) → case_of (mutex_row at).carries
+  pub goes_to : (at at2 : MutexPlace) (d : Deed) → AreOneCase (d ∷ []) → case_of (mutex_row at).has_taken
       (d ∷ []) ≡ None
       → ((rights : ℕ → Rights) → call_by l (mutex_row at2) rights ≡ call_by l (mutex_row at) rights)
       → Rests l (next.At at2)

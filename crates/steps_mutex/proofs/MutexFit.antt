@@ -105,7 +105,7 @@ module _ (limit : ℕ) (s : Site) (t : ℕ) (h : IsSite (record { sort = Mutex; 
             ap (λ (d : Role). d.inside) is,
             w.1,
             ap (λ (d : Role). d.wakes) is,
-            ap (λ (d : Role). d.covers) is,
+            ap (λ (d : Role). d.owes_taken) is,
           ),
         ),
         tt,
@@ -181,7 +181,7 @@ module _ (limit : ℕ) (s : Site) (t : ℕ) (h : IsSite (record { sort = Mutex; 
   left_mutex : s.role t ≡ owner → (b : Bool) → s.parked ≡ b → (after_deed r (Case (Leave Exclusive)) s t).role
       t ≡ record idle { wakes = seen_main b }
   left_mutex is b e = put_same s.role t _ ∙ (λ i. record (is i) {
-    wakes = if (is i).covers then (is i).wakes else seen_main (e i);
+    wakes = if (is i).owes_taken then (is i).wakes else seen_main (e i);
     claims = None;
   })
 
@@ -198,13 +198,13 @@ module _ (limit : ℕ) (s : Site) (t : ℕ) (h : IsSite (record { sort = Mutex; 
   )
 
   -- the thread takes the first waiter, if there is one
-  takes_first : (d : Role) → s.role t ≡ d → d.inside ≡ Some Main → d.carries ≡ false
+  takes_first : (d : Role) → s.role t ≡ d → d.inside ≡ Some Main → d.has_taken ≡ false
       → ((d.wakes ≡ None) ⊎ (d.wakes ≡ Some Main)) → (whom : Option ℕ) (any none_left : Bool)
       → TakesFirst s whom any none_left → HasTakenNobody s.lock t
       → AllNeeded r (take_deeds whom) s t × ((after_all r (take_deeds whom) s t).role t ≡ record d {
         wakes = None;
-        carries = true;
-        covers = true;
+        has_taken = true;
+        owes_taken = true;
         empty = found Main none_left;
       })
   takes_first d is i c w None any none_left f nobody =
@@ -213,7 +213,7 @@ module _ (limit : ℕ) (s : Site) (t : ℕ) (h : IsSite (record { sort = Mutex; 
         (
           (
             ap (λ (d : Role). d.inside) is ∙ i,
-            ap (λ (d : Role). d.carries) is ∙ c,
+            ap (λ (d : Role). d.has_taken) is ∙ c,
             e,
             subst (λ x. (x ≡ None) ⊎ (x ≡ Some Main)) (sym (ap (λ (d : Role). d.wakes) is)) w,
           ),
@@ -221,14 +221,14 @@ module _ (limit : ℕ) (s : Site) (t : ℕ) (h : IsSite (record { sort = Mutex; 
         ),
         put_same s.role t _ ∙ ap (λ (d : Role). record d {
           wakes = None;
-          carries = true;
-          covers = true;
+          has_taken = true;
+          owes_taken = true;
           empty = Some Main;
         }) is
             ∙ ap (λ b. record d {
               wakes = None;
-              carries = true;
-              covers = true;
+              has_taken = true;
+              owes_taken = true;
               empty = found Main b;
             }) (sym left),
       )
@@ -239,7 +239,7 @@ module _ (limit : ℕ) (s : Site) (t : ℕ) (h : IsSite (record { sort = Mutex; 
             ((drop 1 s.lock.queue, e), nobody, tt),
             (
               ap (λ (d : Role). d.inside) is ∙ i,
-              ap (λ (d : Role). d.carries) is ∙ c,
+              ap (λ (d : Role). d.has_taken) is ∙ c,
               λ second. not_second d.wakes w
                   (sym (ap (λ (d : Role). d.wakes) is) ∙ second),
             ),
@@ -248,8 +248,8 @@ module _ (limit : ℕ) (s : Site) (t : ℕ) (h : IsSite (record { sort = Mutex; 
         ),
         put_same s.role t _ ∙ (λ i. record (is i) {
           wakes = None;
-          carries = true;
-          covers = true;
+          has_taken = true;
+          owes_taken = true;
           empty = found Main (sym f.left i);
         }),
       )
@@ -310,7 +310,7 @@ module _ (limit : ℕ) (s : Site) (t : ℕ) (h : IsSite (record { sort = Mutex; 
         ),
         (
           ap (λ (d : Role). d.inside) is,
-          ap (λ (d : Role). d.covers) is,
+          ap (λ (d : Role). d.owes_taken) is,
           ap (λ (d : Role). d.retries) is,
           ap (λ (d : Role). d.wakes) is,
         ),
@@ -320,14 +320,14 @@ module _ (limit : ℕ) (s : Site) (t : ℕ) (h : IsSite (record { sort = Mutex; 
 
     given : (whom : Option ℕ) (none_left : Bool) → s.role t ≡ storing none_left
         → (after_deed r (Case (HandsOff Exclusive (heir whom))) s t).role t ≡ record inside {
-          carries = true;
+          has_taken = true;
           empty = found Main (seen_empty any none_left);
         }
     given whom none_left is = put_same s.role t _ ∙ ap (λ (d : Role). record d {
-      covers = false;
+      owes_taken = false;
       claims = None;
-      brings = false;
-      sets = false;
+      will_bring = false;
+      bit_pending = false;
     }) is
 
     stores : (whom : Option ℕ) (none_left : Bool) → s.role t ≡ storing none_left → any ≡ not (is_none whom)
@@ -335,31 +335,31 @@ module _ (limit : ℕ) (s : Site) (t : ℕ) (h : IsSite (record { sort = Mutex; 
         → Does (handing_deeds whom none_left) (At (HandOff bumping (hand_off.Leave any)))
     stores None none_left is some to =
         let d = given None none_left is ∙ ap (λ b. record inside {
-          carries = true;
+          has_taken = true;
           empty = found Main (seen_empty b none_left);
         }) some in (
           ((gives None none_left is to).0, (ap (λ (d : Role). d.empty) d, tt)),
           put_same (after_deed r (Case (HandsOff Exclusive None)) s t).role t _ ∙ ap (λ (d : Role). record d {
             empty = None;
-            brings = false;
+            will_bring = false;
           }) d,
         )
     stores (Some u) true is some to =
         let d = given (Some u) true is ∙ ap (λ b. record inside {
-          carries = true;
+          has_taken = true;
           empty = found Main (seen_empty b true);
         }) some in (
           ((gives (Some u) true is to).0, (ap (λ (d : Role). d.empty) d, tt)),
           put_same (after_deed r (Case (HandsOff Exclusive (Some (queued u)))) s t).role t _
               ∙ ap (λ (d : Role). record d {
                 empty = None;
-                brings = false;
+                will_bring = false;
               }) d,
         )
     stores (Some u) false is some to = (
       ((gives (Some u) false is to).0, (tt, tt)),
       given (Some u) false is ∙ ap (λ b. record inside {
-        carries = true;
+        has_taken = true;
         empty = found Main (seen_empty b false);
       }) some,
     )
@@ -390,7 +390,7 @@ module _ (limit : ℕ) (s : Site) (t : ℕ) (h : IsSite (record { sort = Mutex; 
   hands_off bumping (hand_off.Store any none_left) whom (Value seen) is f =
       follows _ whom (Value seen) (stores bumping any whom none_left is f.1 f.2)
   hands_off bumping (hand_off.Leave any) whom Done is f =
-      let d = goes_out r s t (record inside { carries = true }) is refl refl refl f in
+      let d = goes_out r s t (record inside { has_taken = true }) is refl refl refl f in
       follows _ whom Done (d.0, d.1 ∙ left_section bumping)
   hands_off bumping at whom told is f = absurd f
 

@@ -30,7 +30,7 @@ abbrev pub inside : Role
 inside = record idle { inside = Some Main }
 
 abbrev pub carrying : Role
-carrying = record inside { carries = true; covers = true }
+carrying = record inside { has_taken = true; owes_taken = true }
 
 abbrev pub with_retry : Bool → Role → Role
 with_retry retries d = record d { retries = if retries then Some Exclusive else None }
@@ -102,14 +102,14 @@ unlock_row unlock.Take =
 unlock_row (unlock.Clear any) =
     record blank_row {
       role = record carrying { empty = Some Main };
-      carries = in_hand any false;
+      has_taken = in_hand any false;
       owes = Some Main;
       released = true;
     }
 unlock_row (unlock.Leave any) =
     record blank_row {
       role = carrying;
-      carries = in_hand any false;
+      has_taken = in_hand any false;
       owes = Some Main;
       released = true;
     }
@@ -125,13 +125,13 @@ hand_off_row (hand_off.Store any none_left) =
     record blank_row {
       role = record carrying
           { claims = Some (Has Exclusive); empty = found Main (seen_empty any none_left) };
-      carries =
+      has_taken =
           in_hand any false;
     }
 hand_off_row (hand_off.Leave any) =
     record blank_row {
-      role = record inside { carries = true };
-      carries = in_hand any true;
+      role = record inside { has_taken = true };
+      has_taken = in_hand any true;
       released = true;
     }
 
@@ -140,7 +140,7 @@ hand_off_row (hand_off.Leave any) =
 -- a call that enters has nobody in hand
 abbrev pub entering_row : Entry → Bool → Bool → Profile → Profile
 entering_row e retries handed row = record row {
-  carries = None;
+  has_taken = None;
   wants = Some Exclusive;
   retries = retries;
   timed = is_timed e;
@@ -153,7 +153,7 @@ entering_row e retries handed row = record row {
 abbrev pub leaving_row : (ℕ → Purpose) → Profile → Profile
 leaving_row purpose row = record blank_row {
   role = row.role;
-  carries = row.carries;
+  has_taken = row.has_taken;
   owes = row.owes;
   purpose = purpose;
   released = row.released;

@@ -54,7 +54,7 @@ module _ (r : Rules) (s : Site) (t : ℕ) (sort : r.sort ≡ Once) (h : IsSite r
     (
       ap (λ (d : Role). d.inside) is,
       ap (λ (d : Role). d.wakes) is,
-      ap (λ (d : Role). d.carries) is,
+      ap (λ (d : Role). d.has_taken) is,
       λ some. absurd (nobody (s.role t).retries some),
     ),
     tt,
@@ -96,8 +96,8 @@ module _ (r : Rules) (s : Site) (t : ℕ) (sort : r.sort ≡ Once) (h : IsSite r
     runs : s.lock.phase ≡ InProgress t
     runs = h.held t Running (ap (λ (d : Role). d.claims) is)
 
-    quiet : ((s.role t).wakes ≡ None) × ((s.role t).sets ≡ false)
-    quiet = (ap (λ (d : Role). d.wakes) is, ap (λ (d : Role). d.sets) is)
+    quiet : ((s.role t).wakes ≡ None) × ((s.role t).bit_pending ≡ false)
+    quiet = (ap (λ (d : Role). d.wakes) is, ap (λ (d : Role). d.bit_pending) is)
 
     ends_run : (b : Bool) → s.parked ≡ b → Does r s t (closes succeeded b)
         (in_run forced (if b then At (run.Enter succeeded) else Over (ended succeeded)))
@@ -108,7 +108,7 @@ module _ (r : Rules) (s : Site) (t : ℕ) (sort : r.sort ≡ Once) (h : IsSite r
           needed = (((sort, runs), quiet), tt);
           role = put_same s.role t _ ∙ (λ i. record (is i) {
             wakes = seen_main (e i);
-            sets = e i;
+            bit_pending = e i;
             claims = (taking_role true).claims;
           });
         }
@@ -116,7 +116,7 @@ module _ (r : Rules) (s : Site) (t : ℕ) (sort : r.sort ≡ Once) (h : IsSite r
           needed = (((sort, runs), quiet), tt);
           role = put_same s.role t _ ∙ (λ i. record (is i) {
             wakes = seen_main (e i);
-            sets = e i;
+            bit_pending = e i;
             claims = None;
           });
         }
@@ -126,12 +126,12 @@ module _ (r : Rules) (s : Site) (t : ℕ) (sort : r.sort ≡ Once) (h : IsSite r
             { claims = (taking_role ok).claims }
         out true = put_same s.role t _ ∙ (λ i. record (is i) {
           wakes = seen_main (e i);
-          sets = e i;
+          bit_pending = e i;
           claims = (taking_role true).claims;
         })
         out false = put_same s.role t _ ∙ (λ i. record (is i) {
           wakes = seen_main (e i);
-          sets = e i;
+          bit_pending = e i;
           claims = None;
         })
 
@@ -140,7 +140,7 @@ module _ (r : Rules) (s : Site) (t : ℕ) (sort : r.sort ≡ Once) (h : IsSite r
           (
             ap (λ (d : Role). d.inside) (out ok),
             ap (λ (d : Role). d.wakes) (out ok),
-            ap (λ (d : Role). d.carries) (out ok),
+            ap (λ (d : Role). d.has_taken) (out ok),
             λ some. absurd (let f : false ≡ true =
                 sym (ap (λ (d : Role). counts_some r.sort d.retries) (out ok)) ∙ some in cc),
           ),
@@ -191,7 +191,7 @@ module _ (r : Rules) (s : Site) (t l : ℕ) where
   follows (Run forced (run.Leave succeeded any)) f a is = absurd cc
   follows (GiveUp retries give_up.Clear) f a is = record {
     needed = (ap (λ (d : Role). d.empty) a.role, tt);
-    role = put_same s.role t _ ∙ ap (λ (d : Role). record d { empty = None; brings = false }) a.role;
+    role = put_same s.role t _ ∙ ap (λ (d : Role). record d { empty = None; will_bring = false }) a.role;
   }
   follows (GiveUp retries give_up.Remove) f a is = absurd cc
   follows (GiveUp retries give_up.Leave) f a is = absurd cc

@@ -53,7 +53,7 @@ pub record TakesAll (x : StepView) (hears : Hears) : Type 0 where
       → x.deeds None (Took any none_left) ≡ Case (OfOnce TakeAll) ∷ []
   pub goes : (any none_left : Bool)
       → location_then x (Took any none_left)
-      ≡ record (inside_of Main) { carries = in_hand any false }
+      ≡ record (inside_of Main) { has_taken = in_hand any false }
   pub may : (r : Rules) (s : Site) (t : ℕ) (any none_left : Bool) → HasTakenNobody s.lock t
       → hears r s t None (Took any none_left)
 

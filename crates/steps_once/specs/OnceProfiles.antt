@@ -70,7 +70,7 @@ ran succeeded = if succeeded then Some Ran else None
 
 -- the thread has cleared the bit beside waiters, that it takes
 abbrev pub taking_role : Bool → Role
-taking_role succeeded = record idle { wakes = Some Main; sets = true; claims = ran succeeded }
+taking_role succeeded = record idle { wakes = Some Main; bit_pending = true; claims = ran succeeded }
 
 -- once its run has ended, it owes the waiters their wake
 abbrev pub ending : Bool → Role → Profile
@@ -82,8 +82,8 @@ run_row (run.Close succeeded) = record blank_row { role = running_role }
 run_row (run.Enter succeeded) = ending succeeded (taking_role succeeded)
 run_row (run.Take succeeded) = ending succeeded (record (taking_role succeeded) { inside = Some Main })
 run_row (run.Leave succeeded any) =
-    record (ending succeeded (record inside { carries = true; claims = ran succeeded }))
-    { carries = in_hand any false }
+    record (ending succeeded (record inside { has_taken = true; claims = ran succeeded }))
+    { has_taken = in_hand any false }
 
 -- ---------------------------------------------------------------- every place
 

@@ -205,7 +205,7 @@ module _ (r : Rules) (a : Admission) (s : Site) (t l : ℕ) (op : Op) (admits : 
     looks to is fits = looks_by to is fits (is_blocked a.recursive (wanted x) v)
         (is_counted (wanted x) && nat_le a.limit (count_in v)) refl refl
 
-    -- ---------------------------------------------------------------- it comes in
+    -- ---------------------------------------------------------------- the thread comes in
 
     abbrev Comes : RwLockAt → Access → Type 0
     Comes to y = Tells (of (purpose.Enter y how) again to) (enters_deeds (wanted y))

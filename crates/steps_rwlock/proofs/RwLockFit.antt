@@ -260,15 +260,15 @@ module _ (r : Rules) (s : Site) (t : ℕ) (rw_sort : has_readers r.sort ≡ true
   -- a bit goes where nobody is left
   unmarks : (m : Line) (d : Role) → s.role t ≡ d → d.empty ≡ Some m → Follows r s t (Clear m ∷ []) (record d {
     empty = None;
-    brings = false;
+    will_bring = false;
   })
   unmarks Main d is e = record {
     needed = (ap (λ (x : Role). x.empty) is ∙ e, tt);
-    role = put_same s.role t _ ∙ ap (λ (x : Role). record x { empty = None; brings = false }) is;
+    role = put_same s.role t _ ∙ ap (λ (x : Role). record x { empty = None; will_bring = false }) is;
   }
   unmarks Second d is e = record {
     needed = (ap (λ (x : Role). x.empty) is ∙ e, tt);
-    role = put_same s.role t _ ∙ ap (λ (x : Role). record x { empty = None; brings = false }) is;
+    role = put_same s.role t _ ∙ ap (λ (x : Role). record x { empty = None; will_bring = false }) is;
   }
 
 -- ---------------------------------------------------------------- rights
@@ -447,7 +447,7 @@ module _ (r : Rules) (a : Admission) (s : Site) (t l : ℕ) (op : Op) (admits : 
     unparks : (m : Line) (p2 : RwLockPlace) (d : Role) → s.role t ≡ d → d.empty ≡ Some m → rwlock_role p2
         ≡ record d {
           empty = None;
-          brings = false;
+          will_bring = false;
         } → Follows r s t (Clear m ∷ []) (rwlock_role p2)
     unparks m p2 d is e f = rw f (unmarks r s t admits.0 h tells m d is e)
 

@@ -231,7 +231,7 @@ module _ (l : ℕ) (a : Admission) where
 
     took_main : (any none_left : Bool)
         → location_by (rwlock_profile a (of q again (at.Wake Main (took Main any none_left))))
-        ≡ record (inside_of Main) { carries = in_hand any false }
+        ≡ record (inside_of Main) { has_taken = in_hand any false }
     took_main any true = refl
     took_main any false = refl
 

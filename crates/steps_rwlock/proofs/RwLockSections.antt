@@ -56,13 +56,13 @@ module _ (r : Rules) (s : Site) (t : ℕ) (rw_sort : has_readers r.sort ≡ true
 
   -- A thread goes out of a section.
   goes_out : (d : Role) → s.lock.taken t ≡ None → s.role t ≡ d → d.inside ≢ None → d.wakes ≡ None
-      → d.sets ≡ false → Follows r s t (Out ∷ []) (leaves d)
+      → d.bit_pending ≡ false → Follows r s t (Out ∷ []) (leaves d)
   goes_out d free is inside owes unset = record {
     needed = (
       (
         (λ e. inside (sym (ap (λ (x : Role). x.inside) is) ∙ e)),
         ap (λ (x : Role). x.wakes) is ∙ owes,
-        ap (λ (x : Role). x.sets) is ∙ unset,
+        ap (λ (x : Role). x.bit_pending) is ∙ unset,
       ),
       tt,
     );
@@ -106,7 +106,7 @@ module _ (r : Rules) (s : Site) (t : ℕ) (rw_sort : has_readers r.sort ≡ true
   gives_up_aside b is stands = record { needed = grind (arith, nat_tests); role = grind (arith, nat_tests) }
 
   -- the thread takes the threads that it is to wake
-  nobody_taken : (s.role t).carries ≡ false → HasTakenNobody s.lock t
+  nobody_taken : (s.role t).has_taken ≡ false → HasTakenNobody s.lock t
   nobody_taken none u x e = let g = h.carried u _ e in cc
 
   -- the thread has the right that it keeps
@@ -142,7 +142,7 @@ module _ (r : Rules) (s : Site) (t : ℕ) (rw_sort : has_readers r.sort ≡ true
 
   -- out of the section, and out of the call, where it kept a right
   goes_home : (d : Role) → s.lock.taken t ≡ None → s.role t ≡ d → d.inside ≢ None → d.wakes ≡ None
-      → d.sets ≡ false → d.retries ≡ None → Follows r s t (Out ∷ End ∷ []) idle
+      → d.bit_pending ≡ false → d.retries ≡ None → Follows r s t (Out ∷ End ∷ []) idle
   goes_home d free is inside owes unset again =
       let out = goes_out d free is inside owes unset in
       record {

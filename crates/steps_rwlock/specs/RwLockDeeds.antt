@@ -87,16 +87,16 @@ waking_role start m waking.Take =
 waking_role start m (waking.Clear any) =
     record idle {
       inside = Some m;
-      carries = true;
-      covers = covers_line start m;
+      has_taken = true;
+      owes_taken = covers_line start m;
       empty = Some m;
       claims = kept_claim start;
     }
 waking_role start m (waking.Leave any) =
     record idle {
       inside = Some m;
-      carries = true;
-      covers = covers_line start m;
+      has_taken = true;
+      owes_taken = covers_line start m;
       claims = kept_claim start;
     }
 

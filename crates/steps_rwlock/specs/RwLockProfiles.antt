@@ -171,7 +171,7 @@ abbrev pub rwlock_profile : Admission → RwLockPlace → Profile
 rwlock_profile a p = record {
   role = rwlock_role p;
   stands = stands_at p.at;
-  carries = carries_at p.at;
+  has_taken = carries_at p.at;
   hand = parked_hand p.at;
   wants = wants_for p.purpose;
   owes = owes_at p.at;

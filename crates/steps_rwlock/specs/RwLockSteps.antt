@@ -5,36 +5,36 @@ use Rattle.std.specs.Prelude.{◌-◌, ◌*◌, nat_le, ◌≡◌}
 use Rattle.core_base.specs.declared.keys.Keys.TheVariants.{One}
 use Rattle.core_base.specs.declared.keys.Line.{Line}
 use Rattle.core_base.specs.declared.keys.Line.TheVariants.{Main, Second}
-use Rattle.core_base.specs.declared.notes.Note as note
+use Rattle.core_base.specs.declared.notes.Note.TheVariants as note
 use Rattle.core_base.specs.declared.ops.Op.{Op}
-use Rattle.core_base.specs.declared.ops.Op as op
+use Rattle.core_base.specs.declared.ops.Op.TheVariants as op
 use Rattle.core_base.specs.declared.wants.Want.{Want}
-use Rattle.core_base.specs.declared.wants.Want as want
+use Rattle.core_base.specs.declared.wants.Want.TheVariants as want
 use Rattle.core_base.specs.Keys.{key_of}
 use Rattle.core_base.specs.Words.{apply}
 use Rattle.spec_locks.specs.declared.calls.Access.{Access}
-use Rattle.spec_locks.specs.declared.calls.Access as access
+use Rattle.spec_locks.specs.declared.calls.Access.TheVariants as access
 use Rattle.spec_locks.specs.declared.calls.Downgrade.TheVariants as downgrade
 use Rattle.spec_locks.specs.declared.calls.Patience.{Patience}
 use Rattle.spec_locks.specs.declared.calls.Patience.TheVariants.{Patient, Try}
 use Rattle.spec_locks.specs.declared.outcomes.Answer.{Answer}
-use Rattle.spec_locks.specs.declared.outcomes.Answer as answer
+use Rattle.spec_locks.specs.declared.outcomes.Answer.TheVariants as answer
 use Rattle.spec_locks.specs.declared.outcomes.Outcome.{Outcome}
 pub use Rattle.spec_locks.specs.Purposes.{wanted, from_of, to_of}
 use Rattle.spec_locks.specs.Codes.{count_in, has_aside, has_parked, is_blocked}
 use Rattle.steps_base.specs.Acts.{wakes_taken, any_picked, outcome_of}
 use Rattle.steps_base.specs.declared.acts.Act.{Act}
-use Rattle.steps_base.specs.declared.acts.Act as act
+use Rattle.steps_base.specs.declared.acts.Act.TheVariants as act
 use Rattle.steps_base.specs.declared.acts.Check.{Check}
-use Rattle.steps_base.specs.declared.acts.Check as check
+use Rattle.steps_base.specs.declared.acts.Check.TheVariants as check
 use Rattle.steps_base.specs.declared.acts.Next.{Next}
 use Rattle.steps_base.specs.declared.acts.Next.TheVariants.{At, End}
 use Rattle.steps_base.specs.declared.acts.Reply.{Reply}
 use Rattle.steps_base.specs.declared.acts.Reply.TheVariants.{Done, Value, Parked, Took, Picked, Removed}
 use Rattle.steps_base.specs.declared.acts.Reply.TheVariants.{TakenBy, Late, Woken}
-use Rattle.steps_base.specs.declared.acts.Wakes as wake_notes
+use Rattle.steps_base.specs.declared.acts.Wakes.TheVariants as wake_notes
 use Rattle.steps_base.specs.declared.acts.TakeWhich.{TakeWhich}
-use Rattle.steps_base.specs.declared.acts.TakeWhich as whom_taken
+use Rattle.steps_base.specs.declared.acts.TakeWhich.TheVariants as whom_taken
 use Rattle.steps_rwlock.specs.declared.places.Admission.{Admission}
 use Rattle.steps_base.specs.declared.owners.Fallback.{Fallback}
 use Rattle.steps_base.specs.declared.owners.Fallback.TheVariants as fallbacks
@@ -59,13 +59,13 @@ use Rattle.steps_rwlock.specs.declared.places.TheConstants.{NOT_PARKED, NOT_WRIT
 
 -- a right adds this to the word
 abbrev pub token : Want → ℕ
-token want.TheVariants.Shared = 16
-token want.TheVariants.Upgradable = 20
+token want.Shared = 16
+token want.Upgradable = 20
 token x = 8
 
 -- whether a thread that has the right is counted with the readers
 abbrev pub is_counted : Want → Bool
-is_counted want.TheVariants.Exclusive = false
+is_counted want.Exclusive = false
 is_counted x = true
 
 -- ---------------------------------------------------------------- calls
@@ -75,7 +75,7 @@ abbrev pub access_of : RwLockPurpose → Access
 access_of (purpose.Enter x how) = x
 access_of (purpose.Release x) = x
 access_of (purpose.Downgrade d) = from_of d
-access_of (purpose.Upgrade how) = access.TheVariants.Exclusive
+access_of (purpose.Upgrade how) = access.Exclusive
 
 abbrev pub patience_of : RwLockPurpose → Patience
 patience_of (purpose.Enter x how) = how
@@ -85,19 +85,19 @@ patience_of q = Patient
 -- the right that a thread keeps while it wakes others
 abbrev pub start_of : RwLockPurpose → Option Want
 start_of (purpose.Downgrade d) = Some (wanted (to_of d))
-start_of (purpose.Upgrade how) = Some want.TheVariants.Upgradable
+start_of (purpose.Upgrade how) = Some want.Upgradable
 start_of q = None
 
 -- after a wake a release has done its part, and a call that entered or upgraded has given up
 abbrev pub ends_with : RwLockPurpose → Answer
-ends_with (purpose.Enter x how) = answer.TheVariants.No
-ends_with (purpose.Upgrade how) = answer.TheVariants.No
-ends_with q = answer.TheVariants.Ok
+ends_with (purpose.Enter x how) = answer.No
+ends_with (purpose.Upgrade how) = answer.No
+ends_with q = answer.Ok
 
 -- a call that waits for ever answers ok
 abbrev pub entered : Patience → Answer
-entered Patient = answer.TheVariants.Ok
-entered how = answer.TheVariants.Yes
+entered Patient = answer.Ok
+entered how = answer.Yes
 
 abbrev pub want_at : RwLockPlace → Want
 want_at p = wanted (access_of p.purpose)
@@ -118,7 +118,7 @@ abbrev pub park_or_mark : Bool → Decision
 park_or_mark parked = if parked then decisions.Park else decisions.Mark
 
 abbrev pub decision_blocked : Patience → ℕ → Decision
-decision_blocked Try word = decisions.Refuse answer.TheVariants.No
+decision_blocked Try word = decisions.Refuse answer.No
 decision_blocked how word = park_or_mark (has_parked word)
 
 -- a thread that is blocked waits, one that counts needs room, and any other takes what it wants
@@ -126,13 +126,13 @@ abbrev pub decision : Admission → Want → Patience → ℕ → Decision
 decision a x how word =
     if is_blocked a.recursive x word then decision_blocked how word
     else if is_counted x && nat_le a.limit (count_in word)
-    then decisions.Refuse answer.TheVariants.ReadersFull
+    then decisions.Refuse answer.ReadersFull
     else decisions.Take
 
 -- an upgrade tries where nobody else shares
 abbrev pub decided_for : Admission → RwLockPurpose → ℕ → Decision
 decided_for a (purpose.Upgrade how) seen =
-    if count_in seen == 1 then decisions.Take else decisions.Refuse answer.TheVariants.No
+    if count_in seen == 1 then decisions.Take else decisions.Refuse answer.No
 decided_for a q seen = decision a (wanted (access_of q)) (patience_of q) seen
 
 -- by the value that it saw
@@ -142,64 +142,64 @@ decided a p seen = decided_for a p.purpose seen
 -- ---------------------------------------------------------------- the acts of a thread
 
 abbrev pub exchange : ℕ → ℕ → ℕ → Act
-exchange l from to = act.TheVariants.Word l (op.TheVariants.Exchange from to)
+exchange l from to = act.Word l (op.Exchange from to)
 
 -- sums of words wrap
 abbrev pub plus : ℕ → ℕ → ℕ
-plus word n = apply (op.TheVariants.Add n) word
+plus word n = apply (op.Add n) word
 
 -- the word with the right that a thread takes: an upgrade is a reader with the upgradable right
 -- less, and a writer more
 abbrev pub word_taken : RwLockPurpose → ℕ → ℕ
-word_taken (purpose.Upgrade how) seen = apply (op.TheVariants.Sub 12) seen
+word_taken (purpose.Upgrade how) seen = apply (op.Sub 12) seen
 word_taken q seen = plus seen (token (wanted (access_of q)))
 
 abbrev pub decided_act : ℕ → RwLockPurpose → ℕ → Decision → Act
 decided_act l q seen decisions.Take = exchange l seen (word_taken q seen)
 decided_act l q seen decisions.Mark = exchange l seen (plus seen 1)
-decided_act l q seen decisions.Park = act.TheVariants.Enter (One (2 * l))
-decided_act l q seen (decisions.Refuse answer) = act.TheVariants.End answer
+decided_act l q seen decisions.Park = act.Enter (One (2 * l))
+decided_act l q seen (decisions.Refuse answer) = act.End answer
 
 -- how a thread gives its right up, or turns it into another
 abbrev pub give_op : RwLockPurpose → Op
-give_op (purpose.Enter x how) = op.TheVariants.Sub (token (wanted x))
-give_op (purpose.Release x) = op.TheVariants.Sub (token (wanted x))
-give_op (purpose.Downgrade downgrade.ToShared) = op.TheVariants.Add 8
-give_op (purpose.Downgrade downgrade.ToUpgradable) = op.TheVariants.Add 12
-give_op (purpose.Downgrade downgrade.UpgradableToShared) = op.TheVariants.Sub 4
-give_op (purpose.Upgrade how) = op.TheVariants.Sub 12
+give_op (purpose.Enter x how) = op.Sub (token (wanted x))
+give_op (purpose.Release x) = op.Sub (token (wanted x))
+give_op (purpose.Downgrade downgrade.ToShared) = op.Add 8
+give_op (purpose.Downgrade downgrade.ToUpgradable) = op.Add 12
+give_op (purpose.Downgrade downgrade.UpgradableToShared) = op.Sub 4
+give_op (purpose.Upgrade how) = op.Sub 12
 
 -- How a pending writer falls back: an upgrade has the upgradable right again.
 abbrev pub rollback_op : RwLockPurpose → Op
-rollback_op (purpose.Upgrade how) = op.TheVariants.Add 12
-rollback_op q = op.TheVariants.Sub 8
+rollback_op (purpose.Upgrade how) = op.Add 12
+rollback_op q = op.Sub 8
 
 -- a pending writer sets its parked bit, and goes aside where it is set
 abbrev pub count_act : ℕ → ℕ → Act
 count_act l seen =
-    if has_aside seen then act.TheVariants.Enter (One (2 * l + 1))
+    if has_aside seen then act.Enter (One (2 * l + 1))
     else exchange l seen (plus seen 2)
 
 -- clears the parked bit of a queue
 abbrev pub unparked : Line → Op
-unparked Main = op.TheVariants.And NOT_PARKED
-unparked Second = op.TheVariants.And NOT_WRITER_PARKED
+unparked Main = op.And NOT_PARKED
+unparked Second = op.And NOT_WRITER_PARKED
 
 -- the test of the word inside the section
 abbrev pub park_check : Admission → Want → Line → Check
-park_check a x Main = check.TheVariants.Blocked x a.recursive
-park_check a x Second = check.TheVariants.ReadersLeft
+park_check a x Main = check.Blocked x a.recursive
+park_check a x Second = check.ReadersLeft
 
 abbrev pub leave_act : ℕ → Line → Act
-leave_act l m = act.TheVariants.Leave (One (key_of l m)) wake_notes.TheVariants.Nobody
+leave_act l m = act.Leave (One (key_of l m)) wake_notes.Nobody
 
 abbrev pub park_act : ℕ → Admission → Want → Line → ParkAt → Act
-park_act l a x m parking.Check = act.TheVariants.Park l (key_of l m) (park_check a x m) x
+park_act l a x m parking.Check = act.Park l (key_of l m) (park_check a x m) x
 park_act l a x m (parking.Leave parked) = leave_act l m
-park_act l a x m parking.Asleep = act.TheVariants.Sleep
-park_act l a x m (parking.Taken by) = act.TheVariants.Sleep
-park_act l a x m parking.Remove = act.TheVariants.Remove (key_of l m)
-park_act l a x m parking.Clear = act.TheVariants.Word l (unparked m)
+park_act l a x m parking.Asleep = act.Sleep
+park_act l a x m (parking.Taken by) = act.Sleep
+park_act l a x m parking.Remove = act.Remove (key_of l m)
+park_act l a x m parking.Clear = act.Word l (unparked m)
 park_act l a x m parking.GiveUp = leave_act l m
 
 -- the outcome told to a thread that comes to a place of a parking
@@ -209,27 +209,27 @@ IsTold told at = (l : ℕ) (a : Admission) (x : Want) (m : Line)
 
 -- the waiters that a thread takes of a queue: those that the lock lets in, or the writer aside
 abbrev pub whom : Admission → Option Want → Line → TakeWhich
-whom a start Main = whom_taken.TheVariants.Picked start a.recursive
-whom a start Second = whom_taken.TheVariants.First
+whom a start Main = whom_taken.Picked start a.recursive
+whom a start Second = whom_taken.First
 
 abbrev pub wake_act : ℕ → Admission → RwLockPurpose → Line → WakeAt → Act
-wake_act l a q m waking.Enter = act.TheVariants.Enter (One (key_of l m))
-wake_act l a q m waking.Take = act.TheVariants.Take (key_of l m) (whom a (start_of q) m)
-wake_act l a q m (waking.Clear any) = act.TheVariants.Word l (unparked m)
+wake_act l a q m waking.Enter = act.Enter (One (key_of l m))
+wake_act l a q m waking.Take = act.Take (key_of l m) (whom a (start_of q) m)
+wake_act l a q m (waking.Clear any) = act.Word l (unparked m)
 wake_act l a q m (waking.Leave any) =
-    act.TheVariants.Leave (One (key_of l m)) (wakes_taken any note.TheVariants.Normal)
+    act.Leave (One (key_of l m)) (wakes_taken any note.Normal)
 
 abbrev pub act_at : ℕ → Admission → RwLockPlace → RwLockAt → Act
 act_at l a p at.First = exchange l 0 8
-act_at l a p at.Load = act.TheVariants.Word l op.TheVariants.Load
+act_at l a p at.Load = act.Word l op.Load
 act_at l a p (at.Decide seen) = decided_act l p.purpose seen (decided a p seen)
 act_at l a p (at.Park to) = park_act l a (want_at p) Main to
-act_at l a p at.Look = act.TheVariants.Word l op.TheVariants.Load
+act_at l a p at.Look = act.Word l op.Load
 act_at l a p (at.Count seen) = count_act l seen
-act_at l a p at.Marked = act.TheVariants.Enter (One (key_of l Second))
+act_at l a p at.Marked = act.Enter (One (key_of l Second))
 act_at l a p (at.Aside to) = park_act l a (want_at p) Second to
-act_at l a p at.RollBack = act.TheVariants.Word l (rollback_op p.purpose)
-act_at l a p at.GiveWay = act.TheVariants.Word l (give_op p.purpose)
+act_at l a p at.RollBack = act.Word l (rollback_op p.purpose)
+act_at l a p at.GiveWay = act.Word l (give_op p.purpose)
 act_at l a p (at.Wake m to) = wake_act l a p.purpose m to
 
 abbrev pub rwlock_act : ℕ → Admission → RwLockPlace → Act
@@ -241,7 +241,7 @@ abbrev pub wakes : Line → RwLockAt
 wakes m = at.Wake m waking.Enter
 
 abbrev pub missed : RwLockPlace → Patience → Next RwLockPlace
-missed p Try = End answer.TheVariants.No
+missed p Try = End answer.No
 missed p how = stays p at.Load
 
 abbrev pub first_next : RwLockPlace → ℕ → Next RwLockPlace
@@ -257,7 +257,7 @@ looked a p seen = looked_by p seen (decided a p seen)
 
 -- the exchange of the thread succeeded: a writer that enters is pending until it has looked for readers
 abbrev pub came_in_for : RwLockPlace → RwLockPurpose → Next RwLockPlace
-came_in_for p (purpose.Enter access.TheVariants.Exclusive how) = goes p at.Look false
+came_in_for p (purpose.Enter access.Exclusive how) = goes p at.Look false
 came_in_for p q = End (entered (patience_of q))
 
 abbrev pub came_in : RwLockPlace → Next RwLockPlace
@@ -287,14 +287,14 @@ count_next p expected Done = stays p (at.Aside parking.Check)
 count_next p expected reply = stays p (at.Count expected)
 
 abbrev pub rolled_back : RwLockPlace → ℕ → Next RwLockPlace
-rolled_back p seen = if has_parked seen then stays p (wakes Main) else End answer.TheVariants.No
+rolled_back p seen = if has_parked seen then stays p (wakes Main) else End answer.No
 
 abbrev pub wakes_or_ends : RwLockPlace → Line → Bool → Next RwLockPlace
-wakes_or_ends p m is_there = if is_there then stays p (wakes m) else End answer.TheVariants.Ok
+wakes_or_ends p m is_there = if is_there then stays p (wakes m) else End answer.Ok
 
 -- the last reader wakes the writer aside, and every other release those in the main queue
 abbrev pub released : RwLockPlace → ℕ → Access → Next RwLockPlace
-released p seen access.TheVariants.Shared =
+released p seen access.Shared =
     wakes_or_ends p Second (has_aside seen && (count_in seen == 1))
 released p seen x = wakes_or_ends p Main (has_parked seen)
 
@@ -326,7 +326,7 @@ clears Main none_left = none_left
 clears Second none_left = true
 
 abbrev pub gave_up : RwLockPlace → Line → Next RwLockPlace
-gave_up p Main = End answer.TheVariants.No
+gave_up p Main = End answer.No
 gave_up p Second = stays p at.RollBack
 
 abbrev pub park_next : RwLockPlace → Line → ParkAt → Reply → Next RwLockPlace
@@ -335,8 +335,8 @@ park_next p m parking.Check (Parked parked) =
 park_next p m (parking.Leave parked) Done =
     if parked then stays p (parks_at m parking.Asleep) else stays p (looks_again m)
 park_next p m parking.Asleep (TakenBy by) = stays p (parks_at m (parking.Taken by))
-park_next p m parking.Asleep (Woken note.TheVariants.Normal) = goes p (looks_again m) true
-park_next p m (parking.Taken by) (Woken note.TheVariants.Normal) = goes p (looks_again m) true
+park_next p m parking.Asleep (Woken note.Normal) = goes p (looks_again m) true
+park_next p m (parking.Taken by) (Woken note.Normal) = goes p (looks_again m) true
 park_next p m parking.Asleep Late = stays p (parks_at m parking.Remove)
 park_next p m parking.Remove (Removed none_left) =
     stays p (parks_at m (if clears m none_left then parking.Clear else parking.GiveUp))
@@ -376,7 +376,7 @@ rwlock_next a p reply = next_at a p p.at reply
 -- ---------------------------------------------------------------- owners
 
 abbrev pub enters_by : Access → Change
-enters_by access.TheVariants.Exclusive = changes.Pend
+enters_by access.Exclusive = changes.Pend
 enters_by x = changes.Enter x
 
 abbrev pub taken_change : RwLockPurpose → Change
@@ -405,7 +405,7 @@ settle_change seen = if count_in seen == 0 then changes.Settle else changes.Noth
 
 abbrev pub change_at : Admission → RwLockPlace → ℕ → RwLockAt → Change
 change_at a p seen at.First =
-    if seen == 0 then changes.Enter access.TheVariants.Exclusive else changes.Nothing
+    if seen == 0 then changes.Enter access.Exclusive else changes.Nothing
 change_at a p seen (at.Decide expected) =
     if seen == expected then came_change p.purpose (decided a p expected) else changes.Nothing
 change_at a p seen at.Look = settle_change seen
@@ -422,12 +422,12 @@ abbrev pub pending_with : ℕ → Fallback → Option owners.Pending
 pending_with t fallback = Some (record { thread = t; fallback = fallback })
 
 abbrev pub owners_by : Change → ℕ → Owners → Owners
-owners_by (changes.Enter access.TheVariants.Upgradable) t o = record o { upgradable = Some t }
-owners_by (changes.Enter access.TheVariants.Exclusive) t o = record o { exclusive = Some t }
+owners_by (changes.Enter access.Upgradable) t o = record o { upgradable = Some t }
+owners_by (changes.Enter access.Exclusive) t o = record o { exclusive = Some t }
 owners_by changes.Pend t o = record o { pending = pending_with t fallbacks.Nothing }
 owners_by changes.Settle t o = record o { exclusive = Some t; pending = None }
-owners_by (changes.Leave access.TheVariants.Upgradable) t o = record o { upgradable = None }
-owners_by (changes.Leave access.TheVariants.Exclusive) t o = record o { exclusive = None }
+owners_by (changes.Leave access.Upgradable) t o = record o { upgradable = None }
+owners_by (changes.Leave access.Exclusive) t o = record o { exclusive = None }
 owners_by (changes.Downgrade downgrade.ToShared) t o = record o { exclusive = None }
 owners_by (changes.Downgrade downgrade.ToUpgradable) t o =
     record o { exclusive = None; upgradable = Some t }
@@ -443,8 +443,8 @@ abbrev pub rwlock_owners : Admission → RwLockPlace → ℕ → ℕ → Owners 
 rwlock_owners a p t seen o = owners_by (change a p seen) t o
 
 abbrev pub shares_by : Change → ℕ → Option ℕ
-shares_by (changes.Enter access.TheVariants.Shared) n = Some (plus n 1)
-shares_by (changes.Leave access.TheVariants.Shared) n = Some (n - 1)
+shares_by (changes.Enter access.Shared) n = Some (plus n 1)
+shares_by (changes.Leave access.Shared) n = Some (n - 1)
 shares_by (changes.Downgrade downgrade.ToShared) n = Some (plus n 1)
 shares_by (changes.Downgrade downgrade.UpgradableToShared) n = Some (plus n 1)
 shares_by change n = None

@@ -22,7 +22,7 @@ use Rattle.steps_base.specs.declared.acts.Next.TheVariants as next
 use Rattle.steps_base.specs.declared.acts.Reply.{Reply}
 use Rattle.steps_base.specs.declared.acts.Reply.TheVariants.{Done, Value, Parked, Took, Picked, Removed}
 use Rattle.steps_base.specs.declared.acts.Reply.TheVariants.{TakenBy, HandedBy, Woken, Late}
-use Rattle.steps_base.specs.declared.acts.TakeWhich as whom
+use Rattle.steps_base.specs.declared.acts.TakeWhich.TheVariants as whom
 use Rattle.steps_base.specs.Acts.{any_picked}
 use Rattle.steps_base.specs.Moves.{StepView, Hears, StaysPut, GoesIn, Parks, Picks, TakesAside, LeavesLine}
 use Rattle.steps_base.specs.Moves.{GoesOut, MovesByAct, Sleeps, IsHeld, RowWaits, AreOfWord, AreLeaving}
@@ -140,12 +140,12 @@ module _ (x y : StepView) (hears : Hears) (alike : IsAs x y) where
     any = g.any;
     notes = g.notes;
     inside = ap (λ (s : Location). s.inside) alike.here ∙ g.inside;
-    carries = ap (λ (s : Location). s.carries) alike.here ∙ g.carries;
+    has_taken = ap (λ (s : Location). s.has_taken) alike.here ∙ g.has_taken;
     free = ap (λ (s : Location). s.hand) alike.here ∙ g.free;
     deeds = subst (λ (d : Option ℕ → Reply → List Deed). AreLeaving (d None Done)) (sym alike.deeds) g.deeds;
     goes = alike.goes Done tt ∙ g.goes ∙ sym (ap (λ (s : Location). record s {
       inside = None;
-      carries = None;
+      has_taken = None;
     }) alike.here);
     may = g.may;
   }
@@ -156,8 +156,8 @@ module _ (x y : StepView) (hears : Hears) (alike : IsAs x y) where
   moves_as l b (act.Word k op) g = (g.0, stays_as g.1)
   moves_as l b (act.Enter keys) g = (g.0, g.1, goes_in_as g.0 Done tt g.2)
   moves_as l b (act.Park k key check x) g = (g.0, g.1, g.2, parks_as g.0 check x g.3)
-  moves_as l b (act.Take key (whom.TheVariants.Picked start c)) g = (g.0, g.1, picks_as start g.2)
-  moves_as l b (act.Take key whom.TheVariants.First) g = (g.0, takes_as g.1)
+  moves_as l b (act.Take key (whom.Picked start c)) g = (g.0, g.1, picks_as start g.2)
+  moves_as l b (act.Take key whom.First) g = (g.0, takes_as g.1)
   moves_as l b (act.Remove key) g = (g.0, g.1, leaves_line_as g.0 g.2)
   moves_as l b (act.Leave keys wakes) g = inl (g.0, g.1, goes_out_as g.0 wakes g.2)
   moves_as l b act.Sleep g = tt
@@ -307,7 +307,7 @@ module _ (l : ℕ) (a : Admission) where
               sharers = n;
               successor = y;
               none_left = none_left;
-            })))) ≡ record (inside_of Main) { carries = in_hand (any_picked n y) false }
+            })))) ≡ record (inside_of Main) { has_taken = in_hand (any_picked n y) false }
         goes access.Shared n y none_left = refl
         goes access.Upgradable n y none_left = refl
         goes access.Exclusive n y none_left = refl

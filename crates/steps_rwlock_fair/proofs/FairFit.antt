@@ -134,15 +134,15 @@ module _ (r : Rules) (s : Site) (t : ℕ) (rw_sort : has_readers r.sort ≡ true
   -- there is no room for those in hand: the right is given up inside the section, and they are to be woken
   leaves_them : (k : Taken) (none_left : Bool) → k.none_left ≡ none_left → s.role t ≡ record idle {
     inside = Some Main;
-    carries = true;
-    covers = true;
+    has_taken = true;
+    owes_taken = true;
     empty = found Main none_left;
     claims = Some (Has Upgradable);
   }
       → Follows r s t (Case (Leave Upgradable) ∷ bit_left none_left ∷ []) (record idle {
         inside = Some Main;
-        carries = true;
-        covers = true;
+        has_taken = true;
+        owes_taken = true;
       })
   leaves_them k true e is = let own = h.held t (Has Upgradable) (grind arith) in record {
     needed = grind (arith, nat_tests);

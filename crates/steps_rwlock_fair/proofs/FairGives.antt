@@ -107,13 +107,13 @@ got_by s s2 u x false e more h = absurd h
 
 module _ (r : Rules) (a : Admission) (s : Site) (t l : ℕ) (h : IsSite r s) where
   -- a thread that carries nobody has taken nobody
-  takes_nobody : (s.role t).carries ≡ false → HasTakenNobody s.lock t
+  takes_nobody : (s.role t).has_taken ≡ false → HasTakenNobody s.lock t
   takes_nobody none u x taken = let e : true ≡ false = sym (h.carried u _ taken) ∙ none in cc
 
   -- a thread that covers the line has somebody in hand, or nobody is left
-  some_or_none : (s.role t).covers ≡ true → ((u : ℕ) × ((x : Want) × IsTaken s.lock t u x))
+  some_or_none : (s.role t).owes_taken ≡ true → ((u : ℕ) × ((x : Want) × IsTaken s.lock t u x))
       ⊎ (s.lock.queue ≡ [])
-  some_or_none covers = by_line s.lock.queue refl
+  some_or_none owes_taken = by_line s.lock.queue refl
     where
       by_taken : (u : ℕ) (o : Option locks.Taken) → s.lock.taken u ≡ o → counts_taken r.sort t o ≡ true
           → (x : Want) × IsTaken s.lock t u x
@@ -132,7 +132,7 @@ module _ (r : Rules) (a : Admission) (s : Site) (t l : ℕ) (h : IsSite r s) whe
       by_line : (q : List Queued) → s.lock.queue ≡ q → ((u : ℕ) × ((x : Want) × IsTaken s.lock t u x))
           ⊎ (s.lock.queue ≡ [])
       by_line [] e = inr e
-      by_line (y ∷ q) e = let some = (h.covered t covers).2 (λ f. let g : y ∷ q ≡ [] = sym e ∙ f in cc)
+      by_line (y ∷ q) e = let some = (h.covered t owes_taken).2 (λ f. let g : y ∷ q ≡ [] = sym e ∙ f in cc)
           in inl (some.0, by_taken some.0 (s.lock.taken some.0) refl some.1)
 
   -- ---------------------------------------------------------------- steps
@@ -151,12 +151,12 @@ module _ (r : Rules) (a : Admission) (s : Site) (t l : ℕ) (h : IsSite r s) whe
   freed x b expected clear is own false e = inl own
   freed x b expected clear is own true e =
       inr (inr (inl (
-        takes_nobody (ap (λ (d : Role). d.carries) is),
+        takes_nobody (ap (λ (d : Role). d.has_taken) is),
         ap has_parked (eqb-true (code r s) expected e) ∙ clear,
       )))
 
   module _ (admits : Admits r a) (k : Taken) (whom : Option ℕ) (hand : HasInHand s.lock t k whom) where
-    -- they would pass the limit
+    -- the waiters would pass the limit
     passes : s.role t ≡ holding_role Upgradable k → has_room a.limit k (code r s) ≡ false → r.limit
         < count (handed t Upgradable (heir_of whom k.successor) s.lock)
     passes is none =
@@ -185,14 +185,14 @@ module _ (r : Rules) (a : Admission) (s : Site) (t l : ℕ) (h : IsSite r s) whe
 module _ (r : Rules) (a : Admission) (s : Site) (t l : ℕ) (op : Op) (whom : Option ℕ) where
   -- to all in hand
   gives_all : (c : RwLockCallPlace) → Over r a s t c whom → call_act l a c ≡ act.HandOver l op
-      → takes_effect op (code r s) ≡ true → (s.role t).covers ≡ true
+      → takes_effect op (code r s) ≡ true → (s.role t).owes_taken ≡ true
       → GivesToAll s.lock (lock_slow r a s t c whom) t
-  gives_all c over e won covers = record {
+  gives_all c over e won owes_taken = record {
     all = λ u x mine there. got_by s.lock (lock_slow r a s t c whom) u x _ refl
         (λ shares. shares_given r a s t l u c op whom over e won (subst (IsTaken s.lock t u) shares mine)
         there)
         (hand_overs_give r a s t l u c op whom x over e won mine there);
-    some = some_or_none r a s t l over.call.site covers;
+    some = some_or_none r a s t l over.call.site owes_taken;
   }
 
   module _ (free : s.lock.taken t ≡ None) where
@@ -207,7 +207,7 @@ module _ (r : Rules) (a : Admission) (s : Site) (t l : ℕ) (op : Op) (whom : Op
     stores b k call hand e =
         let same : operation.Store (parked_as k.none_left (tokens k)) ≡ op = cc in
         gives_all (HandOver access.Exclusive b (handing.Store k)) (over_of _ k call refl hand) e
-        (ap (λ o. takes_effect o (code r s)) (sym same)) (ap (λ (d : Role). d.covers) call.role)
+        (ap (λ o. takes_effect o (code r s)) (sym same)) (ap (λ (d : Role). d.owes_taken) call.role)
 
     exchanges : (b : Bool) (k : Taken) (expected : ℕ) (call : IsInCall r a s t
         (HandOver access.Upgradable b (handing.Exchange k expected))) → HasInHand s.lock t k whom
@@ -262,7 +262,7 @@ module _ (r : Rules) (a : Admission) (s : Site) (t l : ℕ) (op : Op) (whom : Op
             (with_taken access.Upgradable k expected)) else act.Word l
             (operation.Exchange expected (parked_as k.none_left (word_without access.Upgradable
             expected)))) (sym er)) ∙ hands er)
-            (sym (ap (λ o. takes_effect o (code r s)) same) ∙ ew) (ap (λ (d : Role). d.covers) call.role)))
+            (sym (ap (λ o. takes_effect o (code r s)) same) ∙ ew) (ap (λ (d : Role). d.owes_taken) call.role)))
 
     -- an owner that hands its lock over
     over_gives : (y : Access) (b : Bool) (to : HandOverAt) (call : IsInCall r a s t (HandOver y b to))

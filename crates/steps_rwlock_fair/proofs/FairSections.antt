@@ -107,13 +107,13 @@ module _ (r : Rules) (a : Admission) (s : Site) (t : ℕ) (admits : Admits r a) 
 
   -- A thread goes out of a section.
   goes_out : (d : Role) → s.lock.taken t ≡ None → s.role t ≡ d → d.inside ≢ None → d.wakes ≡ None
-      → d.sets ≡ false → leaves d ≡ idle → Follows r s t (Out ∷ []) idle
+      → d.bit_pending ≡ false → leaves d ≡ idle → Follows r s t (Out ∷ []) idle
   goes_out d free is inside owes unset gone = record {
     needed = (
       (
         (λ e. inside (sym (ap (λ (x : Role). x.inside) is) ∙ e)),
         ap (λ (x : Role). x.wakes) is ∙ owes,
-        ap (λ (x : Role). x.sets) is ∙ unset,
+        ap (λ (x : Role). x.bit_pending) is ∙ unset,
       ),
       tt,
     );
@@ -121,7 +121,7 @@ module _ (r : Rules) (a : Admission) (s : Site) (t : ℕ) (admits : Admits r a) 
         ∙ put_same s.role t _ ∙ ap leaves is ∙ gone;
   }
 
-  nobody_taken : (s.role t).carries ≡ false → HasTakenNobody s.lock t
+  nobody_taken : (s.role t).has_taken ≡ false → HasTakenNobody s.lock t
   nobody_taken none u x e = let g = h.carried u _ e in cc
 
   -- an owner takes the threads that the lock lets in once it has gone
@@ -132,11 +132,11 @@ module _ (r : Rules) (a : Admission) (s : Site) (t : ℕ) (admits : Admits r a) 
         successor = y;
         none_left = b;
       }))
-  takes x n y true e is knows = let free = nobody_taken (ap (λ (d : Role). d.carries) is) in record {
+  takes x n y true e is knows = let free = nobody_taken (ap (λ (d : Role). d.has_taken) is) in record {
     needed = grind (arith, nat_tests);
     role = grind (arith, nat_tests);
   }
-  takes x n y false e is knows = let free = nobody_taken (ap (λ (d : Role). d.carries) is) in record {
+  takes x n y false e is knows = let free = nobody_taken (ap (λ (d : Role). d.has_taken) is) in record {
     needed = grind (arith, nat_tests);
     role = grind (arith, nat_tests);
   }

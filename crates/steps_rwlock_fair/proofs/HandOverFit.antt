@@ -36,14 +36,14 @@ module _ (r : Rules) (s : Site) (t : ℕ) (rw_sort : has_readers r.sort ≡ true
       → HasInHand s.lock t k whom → HandOffFits r x (handed t x (heir_of whom k.successor) s.lock)
       → s.role t ≡ record idle {
         inside = Some Main;
-        carries = true;
-        covers = true;
+        has_taken = true;
+        owes_taken = true;
         empty = found Main none_left;
         claims = Some (Has x);
       }
       → Follows r s t (Case (HandOff x (heir_of whom k.successor)) ∷ bit_left none_left ∷ []) (record idle {
         inside = Some Main;
-        carries = true;
+        has_taken = true;
       })
   hands Exclusive k whom true ex hand fits is = let own = h.held t (Has Exclusive) (grind arith) in let next =
       hand.successor in record {

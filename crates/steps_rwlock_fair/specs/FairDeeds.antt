@@ -32,8 +32,8 @@ use Rattle.steps_rwlock_fair.specs.FairSteps.{has_room, gives_way}
 abbrev pub holding_role : Want → Taken → Role
 holding_role x k = record idle {
   inside = Some Main;
-  carries = true;
-  covers = true;
+  has_taken = true;
+  owes_taken = true;
   empty = found Main k.none_left;
   claims = Some (Has x);
 }
@@ -44,7 +44,7 @@ hand_over_role x (handing.Store k) = holding_role x k
 hand_over_role x (handing.Look k) = holding_role x k
 hand_over_role x (handing.Exchange k seen) = holding_role x k
 hand_over_role x (handing.Leave any handed) =
-    record idle { inside = Some Main; carries = true; covers = not handed }
+    record idle { inside = Some Main; has_taken = true; owes_taken = not handed }
 hand_over_role x to = at_rest None (Some (Has x))
 
 -- the right of a thread that was handed the lock

@@ -109,7 +109,7 @@ call_profile a (PeekQueue x) =
     record blank_row { role = call_role (PeekQueue x); purpose = λ l. Bumps l (wanted x) }
 call_profile a (HandOver x b to) = record blank_row {
   role = call_role (HandOver x b to);
-  carries = carries_handing to;
+  has_taken = carries_handing to;
   owes = in_line (owes_handing to) Main;
   purpose = release_purpose b (wanted x);
   released = has_given to;

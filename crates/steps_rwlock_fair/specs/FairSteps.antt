@@ -4,7 +4,7 @@ use Rattle.std.specs.Prelude.{ℕ, Bool, true, false, Option, Some, None, if◌t
 use Rattle.std.specs.Prelude.{◌+◌, ◌-◌, ◌*◌, ◌%◌, ◌^◌, nat_le}
 use Rattle.core_base.specs.declared.keys.Keys.TheVariants.{One}
 use Rattle.core_base.specs.declared.notes.Note as note
-use Rattle.core_base.specs.declared.ops.Op as op
+use Rattle.core_base.specs.declared.ops.Op.TheVariants as op
 use Rattle.core_base.specs.declared.wants.Want.{Want}
 use Rattle.core_base.specs.declared.wants.Want.TheVariants.{Upgradable}
 use Rattle.core_base.specs.Words.{apply}
@@ -22,7 +22,7 @@ use Rattle.steps_base.specs.declared.acts.Next.{Next}
 use Rattle.steps_base.specs.declared.acts.Next.TheVariants.{At, End}
 use Rattle.steps_base.specs.declared.acts.Reply.{Reply}
 use Rattle.steps_base.specs.declared.acts.Reply.TheVariants.{Done, Value, Picked, HandedBy, Woken}
-use Rattle.steps_base.specs.declared.acts.TakeWhich as whom
+use Rattle.steps_base.specs.declared.acts.TakeWhich.TheVariants as whom
 use Rattle.steps_base.specs.declared.owners.Owners.{Owners}
 use Rattle.steps_rwlock.specs.declared.places.Admission.{Admission}
 use Rattle.steps_rwlock.specs.declared.places.RwLockPlace.{RwLockPlace}
@@ -75,7 +75,7 @@ abbrev pub parked_as : Bool → ℕ → ℕ
 parked_as none_left word = (word - word % 2) + (if none_left then 0 else 1)
 
 abbrev pub word_without : Access → ℕ → ℕ
-word_without x seen = apply (op.TheVariants.Sub (token (wanted x))) seen
+word_without x seen = apply (op.Sub (token (wanted x))) seen
 
 abbrev pub with_taken : Access → Taken → ℕ → ℕ
 with_taken x k seen = parked_as k.none_left (plus (word_without x seen) (tokens k))
@@ -101,20 +101,20 @@ looked seen = if has_parked seen then handing.Enter else handing.Free seen
 abbrev pub exchange_act : ℕ → ℕ → Access → Taken → ℕ → Act
 exchange_act l limit x k seen =
     if has_room limit k seen
-    then act.HandOver l (op.TheVariants.Exchange seen (with_taken x k seen))
-    else act.Word l (op.TheVariants.Exchange seen (parked_as k.none_left (word_without x seen)))
+    then act.HandOver l (op.Exchange seen (with_taken x k seen))
+    else act.Word l (op.Exchange seen (parked_as k.none_left (word_without x seen)))
 
 abbrev pub note_by : Bool → note.Note
 note_by handed = if handed then note.TheVariants.HandOff else note.TheVariants.Normal
 
 abbrev pub hand_over_act : ℕ → Admission → Access → HandOverAt → Act
-hand_over_act l a x handing.Load = act.Word l op.TheVariants.Load
+hand_over_act l a x handing.Load = act.Word l op.Load
 hand_over_act l a x (handing.Free seen) = exchange l seen (word_without x seen)
 hand_over_act l a x handing.Enter = act.Enter (One (2 * l))
-hand_over_act l a x handing.Take = act.Take (2 * l) (whom.TheVariants.Picked None a.recursive)
+hand_over_act l a x handing.Take = act.Take (2 * l) (whom.Picked None a.recursive)
 hand_over_act l a x (handing.Store k) =
-    act.HandOver l (op.TheVariants.Store (parked_as k.none_left (tokens k)))
-hand_over_act l a x (handing.Look k) = act.Word l op.TheVariants.Load
+    act.HandOver l (op.Store (parked_as k.none_left (tokens k)))
+hand_over_act l a x (handing.Look k) = act.Word l op.Load
 hand_over_act l a x (handing.Exchange k seen) = exchange_act l a.limit x k seen
 hand_over_act l a x (handing.Leave any handed) =
     act.Leave (One (2 * l)) (wakes_taken any (note_by handed))
@@ -183,7 +183,7 @@ handed_woken access.Exclusive how b alone =
 handed_woken x how b alone = Handed x how b handed.Accept
 
 abbrev pub accept_act : ℕ → Access → Act
-accept_act l access.Exclusive = act.Word l op.TheVariants.Load
+accept_act l access.Exclusive = act.Word l op.Load
 accept_act l x = act.Accept
 
 abbrev pub handed_act : ℕ → Access → HandedAt → Act
@@ -217,7 +217,7 @@ given b p reply = None
 abbrev pub call_act : ℕ → Admission → RwLockCallPlace → Act
 call_act l a (Plain p) = rwlock_act l a p
 call_act l a (Bump p) = rwlock_act l a p
-call_act l a (PeekQueue x) = act.Word l op.TheVariants.Load
+call_act l a (PeekQueue x) = act.Word l op.Load
 call_act l a (HandOver x b to) = hand_over_act l a x to
 call_act l a (Handed x how b to) = handed_act l x to
 

@@ -59,7 +59,7 @@ module _ (limit l t : ℕ) (s : LockState) where
 
   -- nothing happens to the lock
   pub quiet : (at at2 : SemaphorePlace) (ds : List Deed) → AreOneCase ds
-      → case_of (semaphore_profile at).carries ds ≡ None
+      → case_of (semaphore_profile at).has_taken ds ≡ None
       → ((rights : ℕ → Rights) → call_by l (semaphore_profile at2) rights ≡ call_by l (semaphore_profile at)
       rights)
       → Tells at ds (next.At at2)

@@ -101,7 +101,7 @@ module _ (limit : ℕ) (s : Site) (t : ℕ) (h : IsSite (record { sort = Semapho
             ap (λ (d : Role). d.inside) is,
             w.1,
             ap (λ (d : Role). d.wakes) is,
-            ap (λ (d : Role). d.covers) is,
+            ap (λ (d : Role). d.owes_taken) is,
           ),
         ),
         tt,
@@ -215,12 +215,12 @@ module _ (limit : ℕ) (s : Site) (t : ℕ) (h : IsSite (record { sort = Semapho
   )
 
   -- the thread takes the first waiter, if there is one
-  takes_first : (d : Role) → s.role t ≡ d → d.inside ≡ Some Main → d.carries ≡ false → d.wakes ≡ Some Main
+  takes_first : (d : Role) → s.role t ≡ d → d.inside ≡ Some Main → d.has_taken ≡ false → d.wakes ≡ Some Main
       → (whom : Option ℕ) (any none_left : Bool) → TakesFirst s whom any none_left → HasTakenNobody s.lock t
       → AllNeeded r (take_deeds whom) s t × ((after_all r (take_deeds whom) s t).role t ≡ record d {
         wakes = None;
-        carries = true;
-        covers = true;
+        has_taken = true;
+        owes_taken = true;
         empty = found Main none_left;
       })
   takes_first d is i c w None any none_left f nobody =
@@ -229,7 +229,7 @@ module _ (limit : ℕ) (s : Site) (t : ℕ) (h : IsSite (record { sort = Semapho
         (
           (
             ap (λ (d : Role). d.inside) is ∙ i,
-            ap (λ (d : Role). d.carries) is ∙ c,
+            ap (λ (d : Role). d.has_taken) is ∙ c,
             e,
             inr (ap (λ (d : Role). d.wakes) is ∙ w),
           ),
@@ -237,14 +237,14 @@ module _ (limit : ℕ) (s : Site) (t : ℕ) (h : IsSite (record { sort = Semapho
         ),
         put_same s.role t _ ∙ ap (λ (d : Role). record d {
           wakes = None;
-          carries = true;
-          covers = true;
+          has_taken = true;
+          owes_taken = true;
           empty = Some Main;
         }) is
             ∙ ap (λ b. record d {
               wakes = None;
-              carries = true;
-              covers = true;
+              has_taken = true;
+              owes_taken = true;
               empty = found Main b;
             }) (sym left),
       )
@@ -255,7 +255,7 @@ module _ (limit : ℕ) (s : Site) (t : ℕ) (h : IsSite (record { sort = Semapho
             ((drop 1 s.lock.queue, e), nobody, tt),
             (
               ap (λ (d : Role). d.inside) is ∙ i,
-              ap (λ (d : Role). d.carries) is ∙ c,
+              ap (λ (d : Role). d.has_taken) is ∙ c,
               λ second. let g : Some Main ≡ Some Second =
                   sym (ap (λ (d : Role). d.wakes) is ∙ w) ∙ second in cc,
             ),
@@ -264,8 +264,8 @@ module _ (limit : ℕ) (s : Site) (t : ℕ) (h : IsSite (record { sort = Semapho
         ),
         put_same s.role t _ ∙ (λ i. record (is i) {
           wakes = None;
-          carries = true;
-          covers = true;
+          has_taken = true;
+          owes_taken = true;
           empty = found Main (sym f.left i);
         }),
       )

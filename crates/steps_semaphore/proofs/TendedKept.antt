@@ -181,7 +181,7 @@ nobody_forgotten permits s h left free = let one = looked_after (semaphore permi
       elim one.1 [
         | inl wakes ↦ inl wakes
         | inr more ↦ inr (elim more [
-          | inl covers ↦ inl covers
+          | inl owes_taken ↦ inl owes_taken
           | inr tries ↦ inr (trying (s.role one.0).retries tries)
         ])
       ],

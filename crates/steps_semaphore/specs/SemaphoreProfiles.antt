@@ -25,7 +25,7 @@ abbrev pub inside : Role
 inside = record idle { inside = Some Main }
 
 abbrev pub carrying : Role
-carrying = record inside { carries = true; covers = true }
+carrying = record inside { has_taken = true; owes_taken = true }
 
 abbrev pub with_retry : Bool → Role → Role
 with_retry retries d = record d { retries = if retries then Some Shared else None }
@@ -82,14 +82,14 @@ release_row release.Take =
 release_row (release.Clear any) =
     record blank_row {
       role = record carrying { empty = Some Main };
-      carries = in_hand any false;
+      has_taken = in_hand any false;
       owes = Some Main;
       released = true;
     }
 release_row (release.Leave any) =
     record blank_row {
       role = carrying;
-      carries = in_hand any false;
+      has_taken = in_hand any false;
       owes = Some Main;
       released = true;
     }

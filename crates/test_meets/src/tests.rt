@@ -158,7 +158,7 @@ fn perform(section: &mut Section, key: Key, task: Task) -> Option<usize>
             if section.count(key) != 3 {
                 return None;
             }
-            // They have time to fall asleep: others run for longer than a thread polls before.
+            // The waiters have time to fall asleep: others run for longer than a thread polls before.
             delay(TURNS);
             section.take_all(key);
             section.taken().first().copied()

@@ -102,7 +102,7 @@ module _ (w : State) (t l : ℕ) (inductive : IsInductive w) (there : t < length
 
     -- out of a section, with nobody in hand
     pub goes_out_alone : (m : Line) → key_of l m < length w.sections → AreLeaving (x.deeds None told)
-        → (location_of x).inside ≡ Some m → (location_of x).carries ≡ None → (location_of x).hand ≡ None
+        → (location_of x).inside ≡ Some m → (location_of x).has_taken ≡ None → (location_of x).hand ≡ None
         → location_then x told ≡ record (location_of x) { inside = None }
         → Goes w (put (state_with_sections w (One (key_of l m)) None) t p2) l (acts t (x.deeds None told))
     goes_out_alone m line leaving within bare free goes = acting.leave_goes w t l inductive there r rules p2
@@ -134,7 +134,7 @@ module _ (w : State) (t l : ℕ) (inductive : IsInductive w) (there : t < length
         nobody u h = let a : carried_at (place_at w t) l ≡ Some false = inductive.stands.hands.taken t u l
             false
             h in let c : ◌≡◌ {A = Option Bool} None (Some false) =
-            sym (ap (λ (y : Location). y.carries) s.location ∙ bare) ∙ a in cc
+            sym (ap (λ (y : Location). y.has_taken) s.location ∙ bare) ∙ a in cc
 
     module _ (out : acting.IsOut w t l inductive there r rules p2 f.alike f.fits) where
       -- after the last of its main line

@@ -70,9 +70,9 @@ pub record Tied (w : State) (l : ℕ) (p : Place) (v : Says) : Type 0 where
   -- the thread is told of a closure exactly where its run begins
   pub begins : (t : ℕ) → IsInductive w → can_do w (act_of p) ≡ true
       → Calls.MayCome l v.row (event_by l
-      (case_of v.row.carries (v.deeds (whom_by w (act_of p)) (reply_to w t (act_of p)))))
+      (case_of v.row.has_taken (v.deeds (whom_by w (act_of p)) (reply_to w t (act_of p)))))
       → Begins (locks_of w) (event_by l
-      (case_of v.row.carries (v.deeds (whom_by w (act_of p)) (reply_to w t (act_of p)))))
+      (case_of v.row.has_taken (v.deeds (whom_by w (act_of p)) (reply_to w t (act_of p)))))
       (outcome_of (next_act p (reply_to w t (act_of p))))
 
 -- a law book: a page for each place at which a lock may be called
@@ -187,7 +187,7 @@ module _ (w : State) (t l : ℕ) (p : Place) (inductive : IsInductive w) (shape 
         (acts t (x.deeds (whom_by w y) (reply_to w t y)))
     pub tells : CallFollows r here.lock t l x.row (x.deeds (whom_by w y) (reply_to w t y))
         (v.comes (reply_to w t y))
-    pub others : WakesOwn x.row.carries y (case_of x.row.carries (x.deeds (whom_by w y) (reply_to w t y)))
+    pub others : WakesOwn x.row.has_taken y (case_of x.row.has_taken (x.deeds (whom_by w y) (reply_to w t y)))
     -- the thread is in nobody's hand then
     pub free : (location_then x (reply_to w t y)).hand ≡ None
 
@@ -195,9 +195,9 @@ module _ (w : State) (t l : ℕ) (p : Place) (inductive : IsInductive w) (shape 
       → CallFollows r here.lock t l x.row (x.deeds who told) (v.comes told)
   tells_by who told now hears = k.page.tells here t who told at_now hears now
 
-  calm_by : (ds : List Deed) {more : List Deed} → more ≡ ds → AreCalm ds → IsCalm (case_of x.row.carries more)
-  calm_by ds e h = subst (λ (ds : List Deed). IsCalm (case_of x.row.carries ds)) (sym e)
-      (calm_case x.row.carries ds h)
+  calm_by : (ds : List Deed) {more : List Deed} → more ≡ ds → AreCalm ds → IsCalm (case_of x.row.has_taken more)
+  calm_by ds e h = subst (λ (ds : List Deed). IsCalm (case_of x.row.has_taken ds)) (sym e)
+      (calm_case x.row.has_taken ds h)
 
   brief : (told : Reply) → IsBrief told → v.hears r here t None told → Followed None told
   brief told now hears = followed None told (comes told now hears) hears
@@ -224,7 +224,7 @@ module _ (w : State) (t l : ℕ) (p : Place) (inductive : IsInductive w) (shape 
     goes = by_readers (has_readers r.sort) refl;
     tells = subst (λ n. CallFollows r here.lock t l x.row (x.deeds None (Value n)) (v.comes (Value n)))
         (sym word_is) step.2;
-    others = calm_case x.row.carries (x.deeds None (Value (word_at w l)))
+    others = calm_case x.row.has_taken (x.deeds None (Value (word_at w l)))
         (word_calm (x.deeds None (Value (word_at w l))) (g.deeds (word_at w l)));
     free = ap (λ (y : Location). y.hand) (g.goes (word_at w l)) ∙ g.free;
   }
@@ -287,7 +287,7 @@ module _ (w : State) (t l : ℕ) (p : Place) (inductive : IsInductive w) (shape 
       parks : (b : Bool) → v.hears r here t None (Parked b) → Followed None (Parked b)
       parks b h = followed None (Parked b) (t, None, h) h
 
-      calmly : (b : Bool) → IsCalm (case_of x.row.carries (x.deeds None (Parked b)))
+      calmly : (b : Bool) → IsCalm (case_of x.row.has_taken (x.deeds None (Parked b)))
       calmly true = calm_by (Case (OfOnce (Rest want g.forced)) ∷ []) g.rests tt
       calmly false = calm_by [] g.turns tt
 
@@ -362,12 +362,12 @@ module _ (w : State) (t l : ℕ) (p : Place) (inductive : IsInductive w) (shape 
       ≡ hand t b → IsWokenAt w t l HandOff (place_at w u)
   told_of g u b held = let c = calls_there (place_at w u)
       (not_beside w (place_at w u) l (inductive.stands.calls u) many) (Of t b) held
-      in by_handed b c.1 c.0 (sym (carried_now ∙ ap (λ (y : Location). y.carries) g.was)
+      in by_handed b c.1 c.0 (sym (carried_now ∙ ap (λ (y : Location). y.has_taken) g.was)
       ∙ inductive.stands.hands.taken t u l b held) g.any
     where
-      carried_now : carried_at (place_at w t) l ≡ x.row.carries
-      carried_now = ap (λ (y : Location). y.carries) (location_here l (place_at w t) own)
-          ∙ ap (λ (y : Profile). y.carries) same_row
+      carried_now : carried_at (place_at w t) l ≡ x.row.has_taken
+      carried_now = ap (λ (y : Location). y.has_taken) (location_here l (place_at w t) own)
+          ∙ ap (λ (y : Profile). y.has_taken) same_row
 
       was_given : calls (place_at w u) l ≡ true → (location (place_at w u)).hand ≡ hand t true
           → Tied w l (place_at w u) (book.says (place_at w u)) → IsWokenAt w t l HandOff (place_at w u)
@@ -410,7 +410,7 @@ module _ (w : State) (t l : ℕ) (p : Place) (inductive : IsInductive w) (shape 
 
   -- ---------------------------------------------------------------- any act of its own
 
-  -- but for a hand-over
+  -- all acts but a hand-over
   module _ (plain : (j : ℕ) (op : Op) → act_of p ≢ act.HandOver j op) where
     by_act : (y : Act) → act_of p ≡ y → MovesBy r l x v.hears y → can_do w y ≡ true
         → GoesFrom (place_at w t) y
@@ -445,7 +445,7 @@ module _ (w : State) (t l : ℕ) (p : Place) (inductive : IsInductive w) (shape 
     by_act (act.Leave keys wakes) e g can = elim g [
       | inl h ↦ go_on (act.Leave keys wakes) (out_of w t l inductive shape there lt own x same_row v.hears p
           brief h.0 keys wakes h.1 h.2 (wakes_one w t l inductive there own r refl x same_row asleep h.2.any
-          h.2.carries))
+          h.2.has_taken))
       | inr h ↦ go_on (act.Leave keys wakes) (tells_all w t l inductive shape there lt own x same_row v.hears
           p
           brief keys wakes h.0 h.1 (told_of h.1))

@@ -47,27 +47,27 @@ module _ (w : State) (t l : ℕ) (p : Place) (inductive : IsInductive w) (shape 
   single : IsSingle p
   single = of_single l p tied.of
 
-  carries : carried_at (place_at w t) l ≡ v.row.carries
-  carries = ap (λ (y : Location). y.carries) (location_own (place_at w t) l (ap called_lock is ∙ tied.called))
-      ∙ ap (λ q. (location q).carries) is ∙ ap (λ (y : Profile). y.carries) tied.row
+  has_taken : carried_at (place_at w t) l ≡ v.row.has_taken
+  has_taken = ap (λ (y : Location). y.has_taken) (location_own (place_at w t) l (ap called_lock is ∙ tied.called))
+      ∙ ap (λ q. (location q).has_taken) is ∙ ap (λ (y : Profile). y.has_taken) tied.row
 
   abbrev case : Option LockCase
-  case = case_of v.row.carries (v.deeds (whom_by w (act_of p)) told)
+  case = case_of v.row.has_taken (v.deeds (whom_by w (act_of p)) told)
 
   happened : IsEvent w afterwards t (event_by l case)
-  happened = happens w afterwards t l v.row.carries (v.deeds (whom_by w (act_of p)) told) [] inductive
+  happened = happens w afterwards t l v.row.has_taken (v.deeds (whom_by w (act_of p)) told) [] inductive
       (subst (Goes w afterwards l) (sym (append-nil (acts t (v.deeds (whom_by w (act_of p)) told))))
       kept.goes) tt
       kept.tells.one
-      (λ none. in_no_hand w inductive t l (λ h. none (sym carries ∙ h)))
+      (λ none. in_no_hand w inductive t l (λ h. none (sym has_taken ∙ h)))
 
   others : OthersFollow w afterwards t (event_by l case)
   others = others_follow w afterwards t l case happened (hands_nothing w afterwards t l case happened
-      v.row.carries
+      v.row.has_taken
       (act_of p) case kept.others)
       (wakes_own w t l inductive (own w t l p inductive shape there lt is book calls_it) (next_place p told)
       tied.page.plain p (act_of p) (takes_here l (location p) (act_of p)
-      (line_act p l single tied.called)) case (subst (λ h. WakesOwn h (act_of p) case) (sym carries)
+      (line_act p l single tied.called)) case (subst (λ h. WakesOwn h (act_of p) case) (sym has_taken)
       kept.others))
 
   -- where it is then

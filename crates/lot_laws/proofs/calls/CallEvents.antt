@@ -16,7 +16,7 @@ use Imports.{Send, after_deed, AreOneCase, case_of, event_by, event_of, EventNee
 use Imports.{deeds_need, others_keep, State, place_at, kind_at, lock_state, call_at, call_state, locks_of, acts}
 use Imports.{FollowAll, IsInductive, Goes, ActsNeeded, rules_in, after_acts, site_of}
 use Rattle.spec_locks.specs.Locks.{Once, Look, Show}
-use Rattle.spec_locks.specs.declared.outcomes.Outcome as outcome
+use Rattle.spec_locks.specs.declared.outcomes.Outcome.TheVariants as outcome
 use Rattle.steps_base.specs.declared.acts.Next.TheVariants as next
 use Rattle.spec_locks.specs.Locks as locks
 use Rattle.spec_locks.specs.Deeds as deeds
@@ -177,16 +177,16 @@ happens_sending w v t c m all owned number ds before after f apart sent brought 
 -- run is on
 abbrev pub GoesAs : State → ℕ → ℕ → Outcome → Type 0
 GoesAs v t l o =
-    (o ≡ outcome.TheVariants.Step)
-    ⊎ (((o ≡ outcome.TheVariants.Sleep) × (1 ≤ standing t (lock_state v l)))
-    ⊎ ((state : OnceState) × (o ≡ outcome.TheVariants.Closure state)
+    (o ≡ outcome.Step)
+    ⊎ (((o ≡ outcome.Sleep) × (1 ≤ standing t (lock_state v l)))
+    ⊎ ((state : OnceState) × (o ≡ outcome.Closure state)
     × ((lock_state v l).phase ≡ InProgress t)))
 
 -- the call of a thread goes on by an event as its rows say, or it has ended
 abbrev pub LeadsTo : State → ℕ → ℕ → Next Profile → Outcome → Type 0
 LeadsTo v t l (next.At row) o = (called_lock (place_at v t) ≡ Some l) × (profile (place_at v t) ≡ row)
     × GoesAs v t l o × IsSingle (place_at v t)
-LeadsTo v t l (next.End a) o = (place_at v t ≡ Idle) × (o ≡ outcome.TheVariants.End a)
+LeadsTo v t l (next.End a) o = (place_at v t ≡ Idle) × (o ≡ outcome.End a)
 
 -- the calls of the other threads become what an event makes of them
 abbrev pub OthersFollow : State → State → ℕ → Event → Type 0
@@ -281,7 +281,7 @@ pub begins_nothing : (w : LocksState) (l : ℕ) (row : Profile) (c : Option Lock
 begins_nothing w l row None o runs may told = by_outcome o told
   where
     by_outcome : (o : Outcome) → is_closure o ≡ false → Begins w Nothing o
-    by_outcome (outcome.TheVariants.Closure state) h = absurd cc
+    by_outcome (outcome.Closure state) h = absurd cc
     by_outcome o h = tt
 begins_nothing w l row (Some case) o runs may told = by_case case o may told
   where
@@ -289,7 +289,7 @@ begins_nothing w l row (Some case) o runs may told = by_case case o may told
         → Begins w (AtLock l case) o
     by_case (OfOnce (Start forced)) o m h =
         absurd (never_starts (row.purpose l) _ row.released row.recalls l forced runs m.0)
-    by_case case (outcome.TheVariants.Closure state) m h = absurd cc
+    by_case case (outcome.Closure state) m h = absurd cc
     by_case case o m h = tt
 
 -- ---------------------------------------------------------------- a step is one event
@@ -300,7 +300,7 @@ abbrev pub CallLed : State → State → ℕ → Event → CallState → Outcome
 CallLed w v t e call o =
     ((call_state (place_at v t) (rights v t) ≡ woken (locks_of w) t e t (going_on e call))
     × ((l : ℕ) × GoesAs v t l o))
-    ⊎ ((a : Answer) × (o ≡ outcome.TheVariants.End a) × (place_at v t ≡ Idle)
+    ⊎ ((a : Answer) × (o ≡ outcome.End a) × (place_at v t ≡ Idle)
     × AnswerHolds call.purpose (locks_of v) t (going_on e call) a)
 
 module _ (w v : State) (t : ℕ) (e : Event) (h : IsEvent w v t e) (call : CallState) (is : call_at w t ≡ call)

@@ -6,7 +6,7 @@ use Imports.{sym, ◌∙◌, ap, subst, Turn, Outcome, moved_of, taken_of, LockC
 use Imports.{left_after, taking, AtLock, CallState, Does, Event, GoesOn, LocksState, MayHappen, MayMove, Moves}
 use Imports.{Nothing, Stays, Turned, joined_by, locks_after, rules_at, has_readers, needs_of}
 use Rattle.std.proofs.Common.{eqb-true}
-use Rattle.spec_locks.specs.declared.calls.Turn as turn
+use Rattle.spec_locks.specs.declared.calls.Turn.TheVariants as turn
 use Rattle.spec_locks.specs.Locks as locks
 use Rattle.lot_laws.proofs.promises.RowPromises.{CallsOneLock}
 
@@ -101,12 +101,12 @@ module _ (P : LockState → LockState → Type 0) (w v : LocksState) (a l : ℕ)
   stays_so c o s = rw (s.locks l) stays
 
   does_so : (x : Turn) (o : Outcome) → Does w a x o v → P (w.locks l) (v.locks l)
-  does_so (turn.TheVariants.Begin c) o d = stays_so _ o d
-  does_so turn.TheVariants.Go o d = goes_so o d
-  does_so turn.TheVariants.Spin o d = goes_so o d.goes
-  does_so turn.TheVariants.Late o d = stays_so _ o d
-  does_so turn.TheVariants.Ok o d = goes_so o d.goes
-  does_so turn.TheVariants.Err o d = goes_so o d.goes
+  does_so (turn.Begin c) o d = stays_so _ o d
+  does_so turn.Go o d = goes_so o d
+  does_so turn.Spin o d = goes_so o d.goes
+  does_so turn.Late o d = stays_so _ o d
+  does_so turn.Ok o d = goes_so o d.goes
+  does_so turn.Err o d = goes_so o d.goes
 
   pub turned_so : (x : Turn) (o : Outcome) → Turned w a x o v → P (w.locks l) (v.locks l)
   turned_so x o (inl d) = does_so x o d.1

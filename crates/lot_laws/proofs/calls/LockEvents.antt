@@ -24,7 +24,7 @@ use Rattle.lot_laws.proofs.calls.CallEvents.{OthersFollow}
 
 -- ---------------------------------------------------------------- the waiters that a thread has in hand
 
--- this befalls the threads that t has in hand at the lock, and nobody else
+-- an event befalls the threads that t has in hand at the lock, and nobody else
 abbrev pub Befalls : State → State → ℕ → ℕ → Reply → Type 0
 Befalls w v t l reply = (u : ℕ) → u ≢ t → place_at v u ≡ (if is_taken_by t (taken_at (place_at w u) l)
     then next_place (place_at w u) reply else place_at w u)
@@ -165,7 +165,7 @@ module _ (w v : State) (t l : ℕ) where
       either true e = woken_goes_on (place_at w u) t l e r
       either false e = refl
 
--- ---------------------------------------------------------------- it hands its right over
+-- ---------------------------------------------------------------- the right is handed over
 
 module _ (w v : State) (t l : ℕ) (to : Option ℕ) (h : IsEvent w v t (AtLock l (HandsOff Exclusive (heir to))))
     (rules : rules_in w l ≡ mutex) (awake : taken_at (place_at w t) l ≡ None) where

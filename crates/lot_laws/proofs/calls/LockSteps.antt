@@ -45,8 +45,8 @@ use Rattle.steps_semaphore.specs.declared.acquire.AcquireAt.TheVariants as acqui
 use Rattle.core_base.specs.Keys.{key_of}
 use Rattle.core_base.specs.declared.keys.Line.{Line}
 use Rattle.steps_base.specs.declared.acts.Reply.TheVariants as reply
-use Rattle.spec_locks.specs.declared.calls.Turn as turn
-use Rattle.spec_locks.specs.declared.outcomes.Outcome as outcome
+use Rattle.spec_locks.specs.declared.calls.Turn.TheVariants as turn
+use Rattle.spec_locks.specs.declared.outcomes.Outcome.TheVariants as outcome
 use Rattle.steps_mutex.specs.declared.lock.Entry.TheVariants as entries
 use Rattle.steps_mutex.specs.declared.places.MutexPlace.TheVariants.{Bump}
 use Rattle.steps_mutex.specs.declared.places.MutexPlace.TheVariants.{HandOff}
@@ -110,7 +110,7 @@ module _ (w : State) (t : ℕ) (shape : IsWellFormed w) (inductive : IsInductive
     -- ---------------------------------------------------------------- turns by which the place alone changes
 
     late_goes : (p : Place) → place_at w t ≡ p → is_free_under w (late_key p) ≡ true
-        → Stays (locks_of w) t (record (call_state p (rights w t)) { late = true }) outcome.TheVariants.Step
+        → Stays (locks_of w) t (record (call_state p (rights w t)) { late = true }) outcome.Step
         (locks_of (state_after_late_on w t (late_key p)))
     late_goes Idle is can = absurd cc
     late_goes (Condvar l at) is can = condvar_is_late w t l at there is can
@@ -119,13 +119,13 @@ module _ (w : State) (t : ℕ) (shape : IsWellFormed w) (inductive : IsInductive
         asleep : (again : Bool) (p : OncePlace) → p ≡ Look once_call.WaitTimed again look_at.Asleep
             → place_at w t ≡ Once l p → (m : Line) → Main ≡ m
             → Stays (locks_of w) t (record (call_state (Once l p) (rights w t)) { late = true })
-            outcome.TheVariants.Step
+            outcome.Step
             (locks_of (state_after_late_on w t (Some (key_of l m))))
         asleep again p e here m first =
             subst (λ n. Stays (locks_of w) t (record (call_state (Once l p) (rights w t)) { late = true })
-            outcome.TheVariants.Step (locks_of (state_after_late_on w t (Some (key_of l n))))) first
+            outcome.Step (locks_of (state_after_late_on w t (Some (key_of l n))))) first
             (subst (λ x. Stays (locks_of w) t (record (call_state (Once l x) (rights w t)) { late = true })
-            outcome.TheVariants.Step (locks_of (state_after_late_on w t (Some (2 * l))))) (sym e)
+            outcome.Step (locks_of (state_after_late_on w t (Some (2 * l))))) (sym e)
             (timed again (here ∙ ap (Once l) e)))
           where
             timed : (again : Bool) → place_at w t ≡ Once l (Look once_call.WaitTimed again look_at.Asleep)
@@ -133,7 +133,7 @@ module _ (w : State) (t : ℕ) (shape : IsWellFormed w) (inductive : IsInductive
                 (call_state (Once l (Look once_call.WaitTimed again look_at.Asleep)) (rights w t)) {
                   late =
                       true;
-                }) outcome.TheVariants.Step
+                }) outcome.Step
                 (locks_of (state_after_late_on w t (Some (2 * l))))
             timed again at_it = placed w t there (state_with_sections w (One (2 * l)) (Some t)).sections
                 (Once l (Look once_call.WaitTimed again look_at.Asleep)) (next_place (place_at w t)
@@ -143,7 +143,7 @@ module _ (w : State) (t : ℕ) (shape : IsWellFormed w) (inductive : IsInductive
         by_line : (m : Option Line) → (once_profile at).late_line ≡ m → is_free_under w (key_in (Some l) m)
             ≡ true
             → Stays (locks_of w) t (record (call_state (Once l at) (rights w t)) { late = true })
-            outcome.TheVariants.Step
+            outcome.Step
             (locks_of (state_after_late_on w t (key_in (Some l) m)))
         by_line None e can = absurd cc
         by_line (Some m) e can = let z = late_place at m e in asleep z.0 at z.1 is m z.2
@@ -152,24 +152,24 @@ module _ (w : State) (t : ℕ) (shape : IsWellFormed w) (inductive : IsInductive
         asleep : (again : Bool) (p : SemaphorePlace) → p ≡ Acquire true again acquire.Asleep → place_at w t
             ≡ Semaphore l p → (m : Line) → Main ≡ m
             → Stays (locks_of w) t (record (call_state (Semaphore l p) (rights w t)) { late = true })
-            outcome.TheVariants.Step
+            outcome.Step
             (locks_of (state_after_late_on w t (Some (key_of l m))))
         asleep again p e here m first =
             subst (λ n. Stays (locks_of w) t (record (call_state (Semaphore l p) (rights w t)) {
               late =
                   true;
             })
-            outcome.TheVariants.Step (locks_of (state_after_late_on w t (Some (key_of l n))))) first
+            outcome.Step (locks_of (state_after_late_on w t (Some (key_of l n))))) first
             (subst (λ x. Stays (locks_of w) t (record (call_state (Semaphore l x) (rights w t)) {
               late =
                   true;
             })
-            outcome.TheVariants.Step (locks_of (state_after_late_on w t (Some (2 * l))))) (sym e)
+            outcome.Step (locks_of (state_after_late_on w t (Some (2 * l))))) (sym e)
             (timed again (here ∙ ap (Semaphore l) e)))
           where
             timed : (again : Bool) → place_at w t ≡ Semaphore l (Acquire true again acquire.Asleep)
                 → Stays (locks_of w) t (record (call_state (Semaphore l (Acquire true again acquire.Asleep))
-                (rights w t)) { late = true }) outcome.TheVariants.Step
+                (rights w t)) { late = true }) outcome.Step
                 (locks_of (state_after_late_on w t (Some (2 * l))))
             timed again at_it = placed w t there (state_with_sections w (One (2 * l)) (Some t)).sections
                 (Semaphore l (Acquire true again acquire.Asleep)) (next_place (place_at w t) reply.Late) at_it
@@ -179,7 +179,7 @@ module _ (w : State) (t : ℕ) (shape : IsWellFormed w) (inductive : IsInductive
             → is_free_under w (key_in (Some l) m)
             ≡ true
             → Stays (locks_of w) t (record (call_state (Semaphore l at) (rights w t)) { late = true })
-            outcome.TheVariants.Step
+            outcome.Step
             (locks_of (state_after_late_on w t (key_in (Some l) m)))
         by_line None e can = absurd cc
         by_line (Some m) e can = let z = semaphore_late_place at m e in asleep z.0 at z.1 is m z.2
@@ -197,7 +197,7 @@ module _ (w : State) (t : ℕ) (shape : IsWellFormed w) (inductive : IsInductive
         by_line : (m : Option Line) → (call_profile a c).late_line ≡ m → is_free_under w (key_in (Some l) m)
             ≡ true
             → Stays (locks_of w) t (record (call_state (RwLock l a c) (rights w t)) { late = true })
-            outcome.TheVariants.Step
+            outcome.Step
             (locks_of (state_after_late_on w t (key_in (Some l) m)))
         by_line None e can = absurd cc
         by_line (Some m) e can = let z = call_late a c m (sym (late_row a c) ∙ e) in
@@ -358,20 +358,20 @@ module _ (w : State) (t : ℕ) (shape : IsWellFormed w) (inductive : IsInductive
     turned_does : AreCounted w → AreCondvars w → (x : Turn) → can_turn w t x ≡ true
         → MayTurn (locks_of w) t x × Does (locks_of w) t x (turn_outcome w t x)
         (locks_of (state_after_turn w t x))
-    turned_does counted condvars (turn.TheVariants.Begin c) can = begin_goes w t c shape inductive there can
-    turned_does counted condvars turn.TheVariants.Go can =
+    turned_does counted condvars (turn.Begin c) can = begin_goes w t c shape inductive there can
+    turned_does counted condvars turn.Go can =
         (may_go w t can, going_goes w t shape inductive there counted condvars can)
-    turned_does counted condvars turn.TheVariants.Spin can =
+    turned_does counted condvars turn.Spin can =
         (can, by_look (respins_from (place_at w t)) refl can)
       where
         by_look : (o : Option Place) → respins_from (place_at w t) ≡ o → is_some o ≡ true
             → Looks (locks_of w) t (look_outcome w t o) (locks_of (state_after_look w t o))
         by_look None is can = absurd cc
         by_look (Some q) is can = looks w t shape inductive there q is counted condvars
-    turned_does counted condvars turn.TheVariants.Late can =
+    turned_does counted condvars turn.Late can =
         (may_be_late w t inductive can, late_goes w t shape inductive there (place_at w t) refl can)
-    turned_does counted condvars turn.TheVariants.Ok can = closed_does true can
-    turned_does counted condvars turn.TheVariants.Err can = closed_does false can
+    turned_does counted condvars turn.Ok can = closed_does true can
+    turned_does counted condvars turn.Err can = closed_does false can
 
 -- a turn that may be taken is possible
 module _ (w : State) (t : ℕ) (inductive : IsInductive w) where
@@ -381,12 +381,12 @@ module _ (w : State) (t : ℕ) (inductive : IsInductive w) where
   closes_possible succeeded may = let one = runs_one (place_at w t) may in rw one.is refl
 
   possible : (x : Turn) → MayTurn (locks_of w) t x → can_turn w t x ≡ true
-  possible (turn.TheVariants.Begin c) may = begin_possible w t c may
-  possible turn.TheVariants.Go may = go_possible w t inductive may
-  possible turn.TheVariants.Spin may = may
-  possible turn.TheVariants.Late may = late_possible w t inductive may
-  possible turn.TheVariants.Ok may = closes_possible true may
-  possible turn.TheVariants.Err may = closes_possible false may
+  possible (turn.Begin c) may = begin_possible w t c may
+  possible turn.Go may = go_possible w t inductive may
+  possible turn.Spin may = may
+  possible turn.Late may = late_possible w t inductive may
+  possible turn.Ok may = closes_possible true may
+  possible turn.Err may = closes_possible false may
 
   stuck : (x : Turn) → (nat_lt t (length w.places) && can_turn w t x) ≡ false → MayTurn (locks_of w) t x → ⊥
   stuck x cannot may = let there : nat_lt t (length w.places) ≡ true = lt-ltb t (length w.places)
@@ -400,7 +400,7 @@ module _ (w : State) (t : ℕ) (there : t < length w.places) where
       → sleeps (act_of (place_at (put b t p) t)) ≡ sleeps (act_of p)
   put_sleeps b p size = ap (λ q. sleeps (act_of q)) (get_or-set_same b.places t p Idle (rw size there))
 
-  told_going : (go_outcome w t ≡ outcome.TheVariants.Sleep)
+  told_going : (go_outcome w t ≡ outcome.Sleep)
       ↔ (sleeps (act_of (place_at (state_after_go w t) t)) ≡ true)
   told_going = let acted = state_after_act w t (place_at w t) (act_of (place_at w t)) in
       rw (put_sleeps acted (next_place (place_at acted t) (go_reply w t)) (performed_counts w t (place_at w t)
@@ -416,44 +416,44 @@ module _ (w : State) (t : ℕ) (shape : IsWellFormed w) (inductive : IsInductive
 
     turned_sections : (x : Turn) → can_turn w t x ≡ true → (key : ℕ)
         → SectionChanges (section_at w key) t (section_at (state_after_turn w t x) key)
-    turned_sections (turn.TheVariants.Begin c) can key = inl refl
-    turned_sections turn.TheVariants.Go can key = gone_sections w t shape inductive can key
-    turned_sections turn.TheVariants.Spin can key = by_look (respins_from (place_at w t)) refl
+    turned_sections (turn.Begin c) can key = inl refl
+    turned_sections turn.Go can key = gone_sections w t shape inductive can key
+    turned_sections turn.Spin can key = by_look (respins_from (place_at w t)) refl
       where
         by_look : (o : Option Place) → respins_from (place_at w t) ≡ o
             → SectionChanges (section_at w key) t (section_at (state_after_look w t o) key)
         by_look None is = inl refl
         by_look (Some q) is = gone_sections (put w t q) t (well_formed_moved w t shape inductive there q is)
             (inductive_moved w t shape inductive there q is) (looks_now w t there q is) key
-    turned_sections turn.TheVariants.Late can key = late_sections w t shape inductive (place_at w t) refl
+    turned_sections turn.Late can key = late_sections w t shape inductive (place_at w t) refl
         (shape.places t) can key
-    turned_sections turn.TheVariants.Ok can key = closed_sections true can key
-    turned_sections turn.TheVariants.Err can key = closed_sections false can key
+    turned_sections turn.Ok can key = closed_sections true can key
+    turned_sections turn.Err can key = closed_sections false can key
 
     closed_told : (succeeded : Bool) → can_close w t succeeded ≡ true
-        → (close_outcome w t succeeded ≡ outcome.TheVariants.Sleep)
+        → (close_outcome w t succeeded ≡ outcome.Sleep)
         ↔ (sleeps (act_of (place_at (state_after_close w t succeeded) t)) ≡ true)
     closed_told succeeded can = let one = closes_one w t succeeded can
         in told_going (closing w t there succeeded one) t (closing_there w t there succeeded one)
 
     turned_told : (x : Turn) → can_turn w t x ≡ true
-        → (turn_outcome w t x ≡ outcome.TheVariants.Sleep)
+        → (turn_outcome w t x ≡ outcome.Sleep)
         ↔ (sleeps (act_of (place_at (state_after_turn w t x) t)) ≡ true)
-    turned_told (turn.TheVariants.Begin c) can =
+    turned_told (turn.Begin c) can =
         told_step _ (put_sleeps w t there w (first_place (kind_at w (lock_in c)) c) refl
         ∙ begins_awake (kind_at w (lock_in c)) c)
-    turned_told turn.TheVariants.Go can = told_going w t there
-    turned_told turn.TheVariants.Spin can = by_look (respins_from (place_at w t)) refl can
+    turned_told turn.Go can = told_going w t there
+    turned_told turn.Spin can = by_look (respins_from (place_at w t)) refl can
       where
         by_look : (o : Option Place) → respins_from (place_at w t) ≡ o → is_some o ≡ true
-            → (look_outcome w t o ≡ outcome.TheVariants.Sleep)
+            → (look_outcome w t o ≡ outcome.Sleep)
             ↔ (sleeps (act_of (place_at (state_after_look w t o) t)) ≡ true)
         by_look None is can = absurd cc
         by_look (Some q) is can = told_going (put w t q) t (there_moved w t shape inductive there q is)
-    turned_told turn.TheVariants.Late can =
+    turned_told turn.Late can =
         told_step _ (late_awake w t there inductive (late_key (place_at w t)) refl can)
-    turned_told turn.TheVariants.Ok can = closed_told true can
-    turned_told turn.TheVariants.Err can = closed_told false can
+    turned_told turn.Ok can = closed_told true can
+    turned_told turn.Err can = closed_told false can
 
     going_runs : (v : State) → t < length v.places
         → is_closure (go_outcome v t) ≡ runs_closure (act_of (place_at (state_after_go v t) t))
@@ -479,20 +479,20 @@ module _ (w : State) (t : ℕ) (shape : IsWellFormed w) (inductive : IsInductive
 
     turned_runs : (x : Turn) → can_turn w t x ≡ true
         → is_closure (turn_outcome w t x) ≡ runs_closure (act_of (place_at (state_after_turn w t x) t))
-    turned_runs (turn.TheVariants.Begin c) can =
+    turned_runs (turn.Begin c) can =
         sym (ap (λ p. runs_closure (act_of p))
         (get_or-set_same w.places t (first_place (kind_at w (lock_in c)) c) Idle there)
         ∙ begins_outside (kind_at w (lock_in c)) c)
-    turned_runs turn.TheVariants.Go can = going_runs w there
-    turned_runs turn.TheVariants.Spin can = by_look (respins_from (place_at w t)) refl can
+    turned_runs turn.Go can = going_runs w there
+    turned_runs turn.Spin can = by_look (respins_from (place_at w t)) refl can
       where
         by_look : (o : Option Place) → respins_from (place_at w t) ≡ o → is_some o ≡ true
             → is_closure (look_outcome w t o) ≡ runs_closure (act_of (place_at (state_after_look w t o) t))
         by_look None is can = absurd cc
         by_look (Some q) is can = going_runs (put w t q) (there_moved w t shape inductive there q is)
-    turned_runs turn.TheVariants.Late can = late_runs (late_key (place_at w t)) refl can
-    turned_runs turn.TheVariants.Ok can = closing_runs true can
-    turned_runs turn.TheVariants.Err can = closing_runs false can
+    turned_runs turn.Late can = late_runs (late_key (place_at w t)) refl can
+    turned_runs turn.Ok can = closing_runs true can
+    turned_runs turn.Err can = closing_runs false can
 
 -- a step, but for what it leaves of the other threads
 abbrev pub IsTurn : LocksState → Step → Outcome → LocksState → Type 0
@@ -526,25 +526,25 @@ after_step w s shape inductive counted condvars = (
     sections false cannot key = inl refl
 
     told : (b : Bool) → is_possible w s ≡ b
-        → (if b then turn_outcome w s.thread s.turn else outcome.TheVariants.NotNow)
-        ≢ outcome.TheVariants.NotNow
-        → ((if b then turn_outcome w s.thread s.turn else outcome.TheVariants.NotNow)
-        ≡ outcome.TheVariants.Sleep)
+        → (if b then turn_outcome w s.thread s.turn else outcome.NotNow)
+        ≢ outcome.NotNow
+        → ((if b then turn_outcome w s.thread s.turn else outcome.NotNow)
+        ≡ outcome.Sleep)
         ↔ (sleeps (act_of (place_at (if b then state_after_turn w s.thread s.turn else w) s.thread)) ≡ true)
     told true can ne = turned_told w s.thread shape inductive (parts can).0 s.turn (parts can).1
     told false cannot ne = absurd (ne refl)
 
     runs : (b : Bool) → is_possible w s ≡ b
-        → (if b then turn_outcome w s.thread s.turn else outcome.TheVariants.NotNow)
-        ≢ outcome.TheVariants.NotNow
-        → is_closure (if b then turn_outcome w s.thread s.turn else outcome.TheVariants.NotNow)
+        → (if b then turn_outcome w s.thread s.turn else outcome.NotNow)
+        ≢ outcome.NotNow
+        → is_closure (if b then turn_outcome w s.thread s.turn else outcome.NotNow)
         ≡ runs_closure (act_of (place_at (if b then state_after_turn w s.thread s.turn else w) s.thread))
     runs true can ne = turned_runs w s.thread shape inductive (parts can).0 s.turn (parts can).1
     runs false cannot ne = absurd (ne refl)
 
     either : (b : Bool) → is_possible w s ≡ b
         → Turned (locks_of w) s.thread s.turn (if b then turn_outcome w s.thread s.turn
-        else outcome.TheVariants.NotNow)
+        else outcome.NotNow)
         (locks_of (if b then state_after_turn w s.thread s.turn else w))
     either true can = inl (turned_does w s.thread shape inductive (parts can).0 counted condvars s.turn
         (parts can).1)

@@ -19,7 +19,7 @@ use Rattle.steps_mutex.specs.declared.lock.LockAt.TheVariants as lock
 use Rattle.steps_mutex.specs.declared.places.MutexPlace.TheVariants as mutex
 use Rattle.lot_laws.proofs.calls.Closures.{RunsOne}
 use Rattle.core_base.specs.declared.ops.Op.TheVariants.{Load}
-use Rattle.spec_locks.specs.declared.kinds.Kind as kind
+use Rattle.spec_locks.specs.declared.kinds.Kind.TheVariants as kind
 use Rattle.lot_laws.specs.Locations.{location_by}
 use Rattle.lot_laws.proofs.calls.Beside.{looks_beside}
 use Rattle.lot_laws.proofs.machine.Parts.{parts_at}
@@ -41,7 +41,7 @@ set_keeps f (x ∷ xs) (suc i) (suc k) y d e = set_keeps f xs i k y d e
 load_untouched : (w : State) (t l : ℕ) (p : Place) (a : Act) → a ≡ Word l Load
     → KeepsWordsAndQueues w (state_after_act w t p a)
 load_untouched w t l p a loads = subst (λ x. KeepsWordsAndQueues w (state_after_act w t p x)) (sym loads)
-    ((λ k. set_keeps (λ x. x.word) w.locks l k _ (unlocked kind.TheVariants.Mutex) refl), λ key. refl)
+    ((λ k. set_keeps (λ x. x.word) w.locks l k _ (unlocked kind.Mutex) refl), λ key. refl)
 
 -- the thread has come on in the same call, beside the same mutex
 pub fits_on : (w : State) (l : ℕ) (at at2 : CondvarPlace) → FitsCondvar w l at → IsReached at2

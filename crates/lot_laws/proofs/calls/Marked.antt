@@ -25,7 +25,7 @@ use Rattle.steps_once.specs.declared.look.Course.TheVariants as course
 use Rattle.steps_once.specs.OnceSteps as steps
 use Rattle.steps_rwlock.specs.declared.enter.Decision.TheVariants as decisions
 use Rattle.steps_rwlock.specs.declared.purposes.RwLockPurpose.TheVariants as purpose
-use Rattle.spec_locks.specs.declared.calls.Turn as turn
+use Rattle.spec_locks.specs.declared.calls.Turn.TheVariants as turn
 use Rattle.steps_once.specs.declared.look.LookAt.TheVariants as look
 use Rattle.steps_once.specs.declared.places.OncePlace.TheVariants as once
 use Rattle.steps_rwlock.specs.declared.places.RwLockAt.TheVariants as at
@@ -348,7 +348,7 @@ word_goes w t l f there is = ap (λ x. place_at (put (state_after_act w t (place
     (next_place (place_at (state_after_act w t (place_at w t) x) t) (reply_to w t x))) t) is
     ∙ get_or-set_same w.places t (next_place (place_at w t) (Value (word_at w l))) Idle there
 
-pub looks_no_more : (w : State) (s : Step) → s.turn ≡ turn.TheVariants.Go → LooksNoMore w s.thread (after w s)
+pub looks_no_more : (w : State) (s : Step) → s.turn ≡ turn.Go → LooksNoMore w s.thread (after w s)
 looks_no_more w s goes l seen now may is was = by_there (cases_lt s.thread (length w.places))
   where
     t : ℕ

@@ -120,7 +120,7 @@ stands_in None m h = absurd (omega arith)
 
 module _ (w : State) (t l : ℕ) (m : Line) (inductive : IsInductive w) (plain : (rules_in w l).sort
     ≢ locks.Condvar) where
-  -- these are of the line
+  -- the waiters are of the line
   record OfLine (xs : List Waiter) : Type 0 where
     pub times : (u : ℕ) → Lines.times u xs ≤ Lines.times u (queue_at w (key_of l m))
 
@@ -215,7 +215,7 @@ module _ (w : State) (t : ℕ) (p2 : Place) where
       by_case (HandOff x y) h = absurd h
       by_case case h = stay
 
--- ---------------------------------------------------------------- those in its hand are told
+-- ---------------------------------------------------------------- threads in hand are told
 
 -- the thread is taken there by the one in whose hand it is
 pub taken_by_hand : (w : State) (p : Place) (t l : ℕ) → FitsItsLock w p → hand_at p l ≡ hand t false
@@ -294,14 +294,14 @@ module _ (w : State) (t l : ℕ) (inductive : IsInductive w) (is_of : IsOf l (pl
   in_hand_here : (h : Bool) → carried_at (place_at w t) l ≡ Some h → (u : ℕ)
       → is_thread t (taker (place_at w u)) ≡ true
       → hand_at (place_at w u) l ≡ hand t h
-  in_hand_here h carries u e =
+  in_hand_here h has_taken u e =
       let x : IsInHandOf (place_at w u) t = in_hand_where (place_at w u) t (aparts w inductive u) e in
       let here = subst (λ k. hand_at (place_at w u) k ≡ hand t x.handed) (in_hand_at (place_at w)
       inductive.stands.hands t l u (of_carries l (place_at w t) is_of) x) x.hand in
       let there : carried_at (place_at w t) l ≡ Some x.handed = inductive.stands.hands.taken t u l x.handed
       here
       in
-      here ∙ ap (hand t) (let g : Some x.handed ≡ Some h = sym there ∙ carries in let f : x.handed ≡ h = cc
+      here ∙ ap (hand t) (let g : Some x.handed ≡ Some h = sym there ∙ has_taken in let f : x.handed ≡ h = cc
       in f)
 
   told_at : (b : State) (reply : Reply) → b.places ≡ w.places → (u : ℕ) → u ≢ t
@@ -313,14 +313,14 @@ module _ (w : State) (t l : ℕ) (inductive : IsInductive w) (is_of : IsOf l (pl
   -- the thread has taken them
   pub delivers : (b : State) (reply : Reply) → b.places ≡ w.places → carried_at (place_at w t) l ≡ Some false
       → Befalls w (put (state_after_telling b t reply) t p2) t l reply
-  delivers b reply places carries u ne = told_at b reply places u ne
+  delivers b reply places has_taken u ne = told_at b reply places u ne
       ∙ ap (λ c. if c then next_place (place_at w u) reply else place_at w u)
       (same_test (is_thread t (taker (place_at w u))) refl)
     where
       same_test : (c : Bool) → is_thread t (taker (place_at w u)) ≡ c
           → is_thread t (taker (place_at w u)) ≡ is_taken_by t (taken_at (place_at w u) l)
       same_test true e = e ∙ sym (taken_by_hand w (place_at w u) t l (inductive.stands.calls u)
-          (in_hand_here false carries u e))
+          (in_hand_here false has_taken u e))
       same_test false e = e ∙ sym (unless_held w inductive t l u
           (λ h. let f : is_thread t (taker (place_at w u))
           ≡ true = held_tells (place_at w u) t l false h in cc))
@@ -339,14 +339,14 @@ module _ (w : State) (t l : ℕ) (inductive : IsInductive w) (is_of : IsOf l (pl
       → (r : ℕ → Rights)
       → call_state (place_at (put (state_after_telling b t (Woken note.HandOff)) t p2) u) r ≡ call_state
       (place_at w u) r
-  tells_handed b places carries u ne r = ap (λ p. call_state p r) (told_at b (Woken note.HandOff) places u ne)
+  tells_handed b places has_taken u ne r = ap (λ p. call_state p r) (told_at b (Woken note.HandOff) places u ne)
       ∙ either (is_thread t (taker (place_at w u))) refl
     where
       either : (c : Bool) → is_thread t (taker (place_at w u)) ≡ c
           → call_state (if c then next_place (place_at w u) (Woken note.HandOff) else place_at w u) r
           ≡ call_state (place_at w u) r
       either true e = handed_goes w (place_at w u) t l (inductive.stands.calls u)
-          (in_hand_here true carries u e)
+          (in_hand_here true has_taken u e)
           r
       either false e = refl
 

@@ -308,7 +308,7 @@ module _ (w : State) (t l : ℕ) (shape : IsWellFormed w) (inductive : IsInducti
       calm_on : GoesOn (locks_of w) t (going_outcome w t (Condvar l waits)) (locks_of waited)
       calm_on = waits_still calm_fits still (calm_act (wakes_none p calm))
 
-  -- ---------------------------------------------------------------- its release of the mutex
+  -- ---------------------------------------------------------------- the release of the mutex
 
   module _ (m : ℕ) (timed : Bool) (s : WaiterFate) (a : UnlockAt) (is : place_at w t ≡ Condvar l
       (Wait m timed (releasing s a)))

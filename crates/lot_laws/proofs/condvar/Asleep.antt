@@ -115,7 +115,7 @@ two_asleep k (Wait m timed at) apart reached h = wait_asleep k m (apart m refl) 
 two_asleep k (Notify all m at) apart reached h = absurd (notifier_awake all k m at h)
 two_asleep k (Look all) apart reached h = absurd cc
 
--- ---------------------------------------------------------------- it hands nothing over
+-- ---------------------------------------------------------------- nothing is handed over
 
 to_wake : (any : Bool) → in_hand any false ≡ Some true → ⊥
 to_wake true h = cc
@@ -137,11 +137,11 @@ hands_none (Notify all m at) reached h = cc
 hands_none (Look all) reached h = cc
 
 pub two_hand_none : (k : ℕ) (at : CondvarPlace) → IsReached at → (l : ℕ)
-    → (location_at (Condvar k at) l).carries ≡ Some true → ⊥
+    → (location_at (Condvar k at) l).has_taken ≡ Some true → ⊥
 two_hand_none k at reached l h = by_lock (k == l) (is_lock l (mutex_beside at)) h
   where
     by_lock : (c d : Bool)
-        → (if c then location (Condvar k at) else if d then location_by (mutex_side at) else nowhere).carries
+        → (if c then location (Condvar k at) else if d then location_by (mutex_side at) else nowhere).has_taken
         ≡ Some true → ⊥
     by_lock true d g = cc
     by_lock false true g = hands_none at reached g

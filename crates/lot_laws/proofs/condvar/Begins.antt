@@ -39,7 +39,7 @@ untaken_first l (condvar_call.Wait m timed) k = either _
     either false = refl
 untaken_first l (condvar_call.Notify all) k = refl
 
--- ---------------------------------------------------------------- it begins
+-- ---------------------------------------------------------------- the call begins
 
 module _ (w : State) (t l : ℕ) where
   -- the thread's thread has the right that it needs
@@ -124,7 +124,7 @@ module _ (w : State) (t l : ℕ) where
       by_kind kind.Once e right = absurd right
       by_kind (kind.Semaphore permits) e right = absurd right
 
-  -- ---------------------------------------------------------------- its time is up
+  -- ---------------------------------------------------------------- the time is up
 
   pub condvar_is_late : (at : CondvarPlace) → t < length w.places → place_at w t ≡ Condvar l at
       → is_free_under w (late_key (Condvar l at)) ≡ true

@@ -142,7 +142,7 @@ module _ (w : State) (t l : ℕ) (inductive : IsInductive w) (there : t < length
           (both (nat_lt l (length w.locks)) (has_call (kind_at w l) named &&
           (names_mutex_there w (Some m) && holds_right w t named)) may).1).1).1
 
--- ---------------------------------------------------------------- its time is up
+-- ---------------------------------------------------------------- the time is up
 
 module _ (w : State) (t l m : ℕ) (inductive : IsInductive w) (there : t < length w.places) (apart : m ≢ l)
   where

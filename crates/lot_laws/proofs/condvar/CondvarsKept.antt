@@ -12,8 +12,8 @@ use Imports.{going_on, joined_by, locks_after, rules_at, unless_ended, woken, Ma
 use Imports.{kind_at, place_at, section_at, step_outcome, KnowsRights, call_at, call_state, lock_state}
 use Imports.{locks_of, location_at, AreCondvars, AreCounted, FitsCondvar, FitsItsLock, IsInductive, condvar_of}
 use Imports.{key_of, rules_in}
-use Rattle.spec_locks.specs.declared.calls.Turn as turn
-use Rattle.spec_locks.specs.declared.outcomes.Outcome as outcome
+use Rattle.spec_locks.specs.declared.calls.Turn.TheVariants as turn
+use Rattle.spec_locks.specs.declared.outcomes.Outcome.TheVariants as outcome
 use Rattle.steps_base.specs.Locations.{nowhere}
 use Rattle.spec_locks.specs.Locks as locks
 use Rattle.lot_laws.proofs.machine.Befallen.{others_keep_it}
@@ -24,7 +24,7 @@ use Rattle.lot_laws.proofs.machine.KindsStay.{after_kinds}
 use Rattle.lot_laws.proofs.calls.LockSteps.{IsTurn, after_step}
 use Rattle.lot_laws.proofs.promises.PlacePromises.{row_promises}
 use Rattle.lot_laws.proofs.calls.SingleCalls.{call_here}
-use Rattle.lot_laws.proofs.alone.Answers.{purpose_stays, woken_purpose}
+use Rattle.lot_laws.proofs.calls.Purposes.{purpose_stays, woken_purpose}
 use Rattle.lot_laws.proofs.condvar.SameCondvars.{Kept, same_condvar}
 use Rattle.lot_laws.proofs.sites.TurnsKept.{after_inductive}
 use Rattle.lot_laws.proofs.condvar.WaitersAside.{plain_sort}
@@ -247,7 +247,7 @@ module _ (w : State) (s : Step) (shape : IsWellFormed w) (inductive : IsInductiv
       called = woken (locks_of w) t g.event t (going_on g.event (call_at w t))
 
       by_outcome : (o : Outcome) → call_at v t ≡ unless_ended o called → StaysOf
-      by_outcome (outcome.TheVariants.End a) e = inr (sym (call_lock v inductive_then t)
+      by_outcome (outcome.End a) e = inr (sym (call_lock v inductive_then t)
           ∙ ap (λ (c : CallState). of_purpose c.purpose) e)
       by_outcome o e = same_purpose (ap (λ (c : CallState). c.purpose) e ∙ woken_purpose (locks_of w) t
           g.event (going_on g.event (call_at w t)) ∙ purpose_stays g.event (call_at w t))
@@ -261,15 +261,15 @@ module _ (w : State) (s : Step) (shape : IsWellFormed w) (inductive : IsInductiv
     where
       by_turn : (x : Turn) → MayTurn (locks_of w) t x → Does (locks_of w) t x (step_outcome w s) (locks_of v)
           → StaysOf ⊎ (called_lock (place_at w t) ≡ None)
-      by_turn (turn.TheVariants.Begin c) may does = inr (sym (call_lock w inductive t)
+      by_turn (turn.Begin c) may does = inr (sym (call_lock w inductive t)
           ∙ ap of_purpose may.idle)
-      by_turn turn.TheVariants.Late may does =
+      by_turn turn.Late may does =
           inl (same_purpose (ap (λ (c : CallState). c.purpose) (does.calls t
           ∙ put_here (call_at w) t (record (call_at w t) { late = true }))))
-      by_turn turn.TheVariants.Go may does = inl (goes_of does)
-      by_turn turn.TheVariants.Spin may does = inl (goes_of does.goes)
-      by_turn turn.TheVariants.Ok may does = inl (goes_of does.goes)
-      by_turn turn.TheVariants.Err may does = inl (goes_of does.goes)
+      by_turn turn.Go may does = inl (goes_of does)
+      by_turn turn.Spin may does = inl (goes_of does.goes)
+      by_turn turn.Ok may does = inl (goes_of does.goes)
+      by_turn turn.Err may does = inl (goes_of does.goes)
 
   module _ (k : ℕ) (sort : (rules_in w k).sort ≡ locks.Condvar) (other : called_lock (place_at w t) ≢ Some k)
     where
@@ -296,12 +296,12 @@ module _ (w : State) (s : Step) (shape : IsWellFormed w) (inductive : IsInductiv
         where
           by_turn : (x : Turn) → Does (locks_of w) t x (step_outcome w s) (locks_of v)
               → Kept (lock_state w k) (lock_state v k)
-          by_turn (turn.TheVariants.Begin c) does = same_lock (does.locks k)
-          by_turn turn.TheVariants.Late does = same_lock (does.locks k)
-          by_turn turn.TheVariants.Go does = goes_by does
-          by_turn turn.TheVariants.Spin does = goes_by does.goes
-          by_turn turn.TheVariants.Ok does = goes_by does.goes
-          by_turn turn.TheVariants.Err does = goes_by does.goes
+          by_turn (turn.Begin c) does = same_lock (does.locks k)
+          by_turn turn.Late does = same_lock (does.locks k)
+          by_turn turn.Go does = goes_by does
+          by_turn turn.Spin does = goes_by does.goes
+          by_turn turn.Ok does = goes_by does.goes
+          by_turn turn.Err does = goes_by does.goes
 
       -- the others are about to do there what they were
       says_kept : (u : ℕ) → u ≢ t

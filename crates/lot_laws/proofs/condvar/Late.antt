@@ -16,7 +16,7 @@ use Rattle.lot_laws.proofs.machine.Parts.{differ, same}
 use Rattle.lot_laws.proofs.mutex.MutexRows.{mutex_acts}
 use Rattle.lot_laws.proofs.promises.RowPromises.{is_acting}
 
--- ---------------------------------------------------------------- it has something to do
+-- ---------------------------------------------------------------- something is left to do
 
 wait_acts : (k m : ℕ) (at : WaitAt) → is_acting (wait_act k m at) ≡ true
 wait_acts k m (wait.Release s at) = mutex_acts m at
@@ -37,7 +37,7 @@ condvar_acts k (Wait m timed at) = wait_acts k m at
 condvar_acts k (Look all) = refl
 condvar_acts k (Notify all m at) = notify_acts all k m at
 
--- ---------------------------------------------------------------- its time is up
+-- ---------------------------------------------------------------- the time is up
 
 -- the thread sleeps in the queue of one of its locks, and is awake after
 pub record IsLate (k : ℕ) (at : CondvarPlace) (key : ℕ) : Type 0 where

@@ -14,7 +14,7 @@ use Imports.{left_in_line, owners_at, place_at, queue_at, queues_with_last, queu
 use Imports.{queues_without_first, reply_to, state_after_act, state_after_operation, state_after_park}
 use Imports.{state_after_requeue, state_after_take_first, state_after_taking, state_after_wake}
 use Imports.{state_with_sections, unlocked, word_at, FitsCondvar, IsInductive, condvar_of, rules_in}
-use Rattle.core_base.specs.declared.ops.Op as op
+use Rattle.core_base.specs.declared.ops.Op.TheVariants as op
 use Rattle.core_base.specs.declared.requeues.Requeue.TheVariants as requeue
 use Rattle.core_base.specs.declared.wants.Want.TheVariants.{Wait as WaitHere}
 use Rattle.core_base.specs.declared.notes.Note.TheVariants as note
@@ -177,17 +177,17 @@ module _ (w : State) (t l : ℕ) (at : CondvarPlace) (shape : IsWellFormed w) (i
 
       decides : (seen : ℕ) (a b : Bool)
           → Led (relocks (lock.Decide seen))
-          (if not a then act.Word m (op.TheVariants.Exchange seen (seen + 1)) else if b then act.Word m
-          (op.TheVariants.Exchange 1 3) else act.Enter (One (2 * m)))
-      decides seen false b = by_word (lock.Decide seen) (op.TheVariants.Exchange seen (seen + 1))
-      decides seen true true = by_word (lock.Decide seen) (op.TheVariants.Exchange 1 3)
+          (if not a then act.Word m (op.Exchange seen (seen + 1)) else if b then act.Word m
+          (op.Exchange 1 3) else act.Enter (One (2 * m)))
+      decides seen false b = by_word (lock.Decide seen) (op.Exchange seen (seen + 1))
+      decides seen true true = by_word (lock.Decide seen) (op.Exchange 1 3)
       decides seen true false = by_act (lock.Decide seen) (act.Enter (One (2 * m)))
           (at_sections (One (2 * m)) (Some t))
 
       locks_led : (a : LockAt) → at ≡ relocks a → IsLockOf a → can_do w (lock_act m a) ≡ true
           → Led (relocks a) (lock_act m a)
-      locks_led lock.First e of can = by_word lock.First (op.TheVariants.Exchange 0 1)
-      locks_led lock.Load e of can = by_word lock.Load op.TheVariants.Load
+      locks_led lock.First e of can = by_word lock.First (op.Exchange 0 1)
+      locks_led lock.Load e of can = by_word lock.Load op.Load
       locks_led (lock.Decide seen) e of can = decides seen (is_locked seen) (seen == 1)
       locks_led lock.Check e of can = by_act lock.Check (act.Park m (2 * m) (checks.WordIs 3) Exclusive)
           (at_park m apart (unlisted (relocks lock.Check) e refl) (checks.WordIs 3) Exclusive)
@@ -204,7 +204,7 @@ module _ (w : State) (t l : ℕ) (at : CondvarPlace) (shape : IsWellFormed w) (i
         → Led (Wait m timed p) (wait_act l m p)
     wait_led wait.Enter e reached can = (refl, refl)
     wait_led wait.Show e reached can = at_own_word (Wait m timed wait.Show)
-        (op.TheVariants.Exchange 0 (m + 1)) refl named
+        (op.Exchange 0 (m + 1)) refl named
         (shows ((word_at w l == 0) || is_shown (word_at w l) m))
     wait_led wait.Stand e reached can = (
       refl,
@@ -217,12 +217,12 @@ module _ (w : State) (t l : ℕ) (at : CondvarPlace) (shape : IsWellFormed w) (i
     wait_led wait.Refuse e reached can = (refl, refl)
     wait_led (wait.Release s (mutex.Unlock unlock.Subtract)) e reached can =
         at_word m apart (Condvar l (Wait m timed (wait.Release s (mutex.Unlock unlock.Subtract))))
-        (op.TheVariants.Sub 1)
+        (op.Sub 1)
     wait_led (wait.Release s (mutex.Unlock unlock.Enter)) e reached can = at_sections (One (2 * m)) (Some t)
     wait_led (wait.Release s (mutex.Unlock unlock.Take)) e reached can = at_take m apart
     wait_led (wait.Release s (mutex.Unlock (unlock.Clear any))) e reached can =
         at_word m apart (Condvar l (Wait m timed (wait.Release s (mutex.Unlock (unlock.Clear any)))))
-        (op.TheVariants.And NOT_PARKED)
+        (op.And NOT_PARKED)
     wait_led (wait.Release s (mutex.Unlock (unlock.Leave any))) e reached can =
         at_leave (One (2 * m)) (wakes_taken any note.Normal)
     wait_led (wait.Release s p) e reached can = absurd reached.0
@@ -232,7 +232,7 @@ module _ (w : State) (t l : ℕ) (at : CondvarPlace) (shape : IsWellFormed w) (i
       ap (map queued_of) (get_or-map (without t) w.queues (2 * l) [])
           ∙ queued_without t (queue_at w (2 * l)),
     )
-    wait_led wait.Hide e reached can = at_own_word (Wait m timed wait.Hide) (op.TheVariants.Store 0) refl
+    wait_led wait.Hide e reached can = at_own_word (Wait m timed wait.Hide) (op.Store 0) refl
         named refl
     wait_led wait.GiveUp e reached can = (refl, refl)
     wait_led wait.RemoveMoved e reached can =
@@ -276,18 +276,18 @@ module _ (w : State) (t l : ℕ) (at : CondvarPlace) (shape : IsWellFormed w) (i
     notify_led : (p : NotifyAt) → can_do w (notify_act all l m p) ≡ true → Led (Notify all m p)
         (notify_act all l m p)
     notify_led notify.Enter can = (refl, refl)
-    notify_led notify.Again can = at_own_word (Notify all m notify.Again) op.TheVariants.Load refl named_it
+    notify_led notify.Again can = at_own_word (Notify all m notify.Again) op.Load refl named_it
         (sees (is_shown (word_at w l) m))
-    notify_led notify.Hide can = at_own_word (Notify all m notify.Hide) (op.TheVariants.Store 0) refl named_it
+    notify_led notify.Hide can = at_own_word (Notify all m notify.Hide) (op.Store 0) refl named_it
         refl
-    notify_led notify.Mark can = at_word m apart (Condvar l (Notify all m notify.Mark)) op.TheVariants.Load
+    notify_led notify.Mark can = at_word m apart (Condvar l (Notify all m notify.Mark)) op.Load
     notify_led (notify.Set seen) can = at_word m apart (Condvar l (Notify all m (notify.Set seen)))
-        (op.TheVariants.Exchange seen 3)
+        (op.Exchange seen 3)
     notify_led (notify.Move locked) can = moves_led all locked
-    notify_led (notify.Clear any) can = at_own_word (Notify all m (notify.Clear any)) (op.TheVariants.Store 0)
+    notify_led (notify.Clear any) can = at_own_word (Notify all m (notify.Clear any)) (op.Store 0)
         refl named_it refl
     notify_led (notify.MarkMoved number) can =
-        at_word m apart (Condvar l (Notify all m (notify.MarkMoved number))) (op.TheVariants.Or 2)
+        at_word m apart (Condvar l (Notify all m (notify.MarkMoved number))) (op.Or 2)
     notify_led (notify.Leave any number) can = at_leave (Two (2 * l) (2 * m)) (wakes_taken any note.Normal)
 
   pub goes_led : can_do w (condvar_act l at) ≡ true → Led at (condvar_act l at)
@@ -297,5 +297,5 @@ module _ (w : State) (t l : ℕ) (at : CondvarPlace) (shape : IsWellFormed w) (i
           → Led p (condvar_act l p)
       by_place (Wait m timed p) e reached can = wait_led m timed (beside m (ap mutex_beside e)) p e reached
           can
-      by_place (Look all) e reached can = at_own_word (Look all) op.TheVariants.Load refl (λ f. cc) refl
+      by_place (Look all) e reached can = at_own_word (Look all) op.Load refl (λ f. cc) refl
       by_place (Notify all m p) e reached can = notify_led all m (beside m (ap mutex_beside e)) p can

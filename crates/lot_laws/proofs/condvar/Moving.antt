@@ -77,10 +77,10 @@ module _ (w : State) (t c m : ℕ) (apart : m ≢ c) (inductive : IsInductive w)
     (lefts : AreWaiting (locations_of (place_at w)) c Main left)
     (waits : (u : ℕ) → 1 ≤ times u (queue_at w (key_of c Main)) → WaitsAcross w t c m (place_at w u))
     (one_gone : (u v : ℕ) → member u gone ≡ true → member v gone ≡ true → u ≡ v)
-    (out : (location_at (place_at w t) c).stands ≡ None) (bare : (location_at (place_at w t) m).carries
+    (out : (location_at (place_at w t) c).stands ≡ None) (bare : (location_at (place_at w t) m).has_taken
     ≡ None)
     (now_c : location_at p2 c ≡ location_at (place_at w t) c) (any : Option Bool) (now_m : location_at p2 m
-    ≡ record (location_at (place_at w t) m) { carries = any })
+    ≡ record (location_at (place_at w t) m) { has_taken = any })
     (alike_t : (k : ℕ) → k ≢ c → k ≢ m → Alike k (place_at w t) p2) (fits : FitsItsLock w p2) where
   -- where a notification leads each
   abbrev pub goes : ℕ → Place
@@ -159,7 +159,7 @@ module _ (w : State) (t c m : ℕ) (apart : m ≢ c) (inductive : IsInductive w)
   -- a part of a station that none of it changes
   part_across : {A : Type 0} (g : Location → A)
       → ((x : Location) → g (record x { stands = None; waits = None }) ≡ g x)
-      → ((x : Location) (b : Option Bool) → g (record x { carries = b }) ≡ g x)
+      → ((x : Location) (b : Option Bool) → g (record x { has_taken = b }) ≡ g x)
       → ((x : Location) (h : Option Hand) → g (record x { hand = h }) ≡ g x)
       → ((x : Location) → g (record x { stands = Some Main; waits = Some Exclusive }) ≡ g x) → (u k : ℕ)
       → g (location_at (places_across u) k) ≡ g (location_at (place_at w u) k)
@@ -220,16 +220,16 @@ module _ (w : State) (t c m : ℕ) (apart : m ≢ c) (inductive : IsInductive w)
   carries_across i k = elim (cases_eq k m) [
     | inl e ↦ rw (e, same m, and-true (i == t))
         (by_thread (λ u p. carried_at p m ≡ (if u == t then any else carried_at (place_at w u) m))
-        (rw (same t) (ap (λ (y : Location). y.carries) now_m))
-        (λ u nu h. rw (differ u t nu) (ap (λ (y : Location). y.carries) (waits_gone u h).taken.came))
-        (λ u nu f h. rw (differ u t nu) (ap (λ (y : Location). y.carries) (waits_moved u h).moved.came))
+        (rw (same t) (ap (λ (y : Location). y.has_taken) now_m))
+        (λ u nu h. rw (differ u t nu) (ap (λ (y : Location). y.has_taken) (waits_gone u h).taken.came))
+        (λ u nu f h. rw (differ u t nu) (ap (λ (y : Location). y.has_taken) (waits_moved u h).moved.came))
         (λ u nu f h. rw (differ u t nu) refl) i)
     | inr nm ↦ rw (differ k m nm, and-false (i == t)) (elim (cases_eq k c) [
       | inl e ↦ rw e (by_thread (λ u p. carried_at p c ≡ carried_at (place_at w u) c)
-          (ap (λ (y : Location). y.carries) now_c) (λ u nu h. ap (λ (y : Location). y.carries)
-          (waits_gone u h).taken.left) (λ u nu f h. ap (λ (y : Location). y.carries)
+          (ap (λ (y : Location). y.has_taken) now_c) (λ u nu h. ap (λ (y : Location). y.has_taken)
+          (waits_gone u h).taken.left) (λ u nu f h. ap (λ (y : Location). y.has_taken)
           (waits_moved u h).moved.left) (λ u nu f h. refl) i)
-      | inr nc ↦ ap (λ (y : Location). y.carries) (alike_across k nc nm i).location
+      | inr nc ↦ ap (λ (y : Location). y.has_taken) (alike_across k nc nm i).location
     ])
   ]
 

@@ -7,7 +7,7 @@ use Imports.{arith, Waiter, Exclusive, times, Place, line_of, moved_of, taken_of
 use Imports.{Second, Send, Site, has_readers, bringing, code, State, kind_at, moved_under, place_at, queue_at}
 use Imports.{unlocked, taken_at, acts, role_on, location_at, TakesOne, stood_in, ActsNeeded, AreWaiting}
 use Imports.{FitsItsLock, GoesAll, IsInductive, after_acts, key_of, rules_in, locations_of}
-use Rattle.spec_locks.specs.declared.kinds.Kind as kind
+use Rattle.spec_locks.specs.declared.kinds.Kind.TheVariants as kind
 use Rattle.spec_locks.specs.Locks as locks
 use Rattle.lot_laws.proofs.machine.Parts.{parts_at, put_here, put_other, seen_in}
 use Rattle.lot_laws.proofs.sites.OneStep.{same_word}
@@ -35,10 +35,10 @@ module _ (w v : State) (t c m : ℕ) (apart : m ≢ c) (inductive : IsInductive 
     (lefts : AreWaiting (locations_of (place_at w)) c Main left)
     (waits : (u : ℕ) → 1 ≤ times u (queue_at w (key_of c Main)) → WaitsAcross w t c m (place_at w u))
     (one_gone : (u v : ℕ) → member u gone ≡ true → member v gone ≡ true → u ≡ v)
-    (out : (location_at (place_at w t) c).stands ≡ None) (bare : (location_at (place_at w t) m).carries
+    (out : (location_at (place_at w t) c).stands ≡ None) (bare : (location_at (place_at w t) m).has_taken
     ≡ None)
     (now_c : location_at p2 c ≡ location_at (place_at w t) c) (any : Option Bool) (now_m : location_at p2 m
-    ≡ record (location_at (place_at w t) m) { carries = any })
+    ≡ record (location_at (place_at w t) m) { has_taken = any })
     (alike_t : (k : ℕ) → k ≢ c → k ≢ m → Alike k (place_at w t) p2) (fits : FitsItsLock w p2) where
   abbrev afterwards : ℕ → Place
   afterwards = places_across w t c m apart inductive p2 gone moved left counts lefts waits one_gone out bare
@@ -61,8 +61,8 @@ module _ (w v : State) (t c m : ℕ) (apart : m ≢ c) (inductive : IsInductive 
     abbrev sends : List Deed
     sends = Send all ∷ []
 
-    abbrev brings : List Deed
-    brings = Bring (taken_of owned (moved_of all (map queued_of (queue_at w (key_of c Main)))))
+    abbrev will_bring : List Deed
+    will_bring = Bring (taken_of owned (moved_of all (map queued_of (queue_at w (key_of c Main)))))
         (line_of owned (moved_of all (map queued_of (queue_at w (key_of c Main))))) ∷ []
 
     abbrev site_c : Site
@@ -75,7 +75,7 @@ module _ (w v : State) (t c m : ℕ) (apart : m ≢ c) (inductive : IsInductive 
     second_differs l = other_line l Main Second (λ e. cc)
 
     kinds : (k : ℕ) → kind_at v k ≡ kind_at w k
-    kinds k i = (get_or (el i) k (unlocked kind.TheVariants.Mutex)).kind
+    kinds k i = (get_or (el i) k (unlocked kind.Mutex)).kind
 
     -- the parts of a lock, by its lines
     parts_by : (k : ℕ) (q s : List Waiter) → queue_at v (key_of k Main) ≡ q → queue_at v (key_of k Second) ≡ s
@@ -86,10 +86,10 @@ module _ (w v : State) (t c m : ℕ) (apart : m ≢ c) (inductive : IsInductive 
     parts_by k q s e f = λ i. record {
       base = record {
         shared = get_or (eh i) k (replicate (threads i) 0);
-        filled = (get_or (el i) k (unlocked kind.TheVariants.Mutex)).filled;
+        filled = (get_or (el i) k (unlocked kind.Mutex)).filled;
       };
-      word = (get_or (el i) k (unlocked kind.TheVariants.Mutex)).word;
-      owners = (get_or (el i) k (unlocked kind.TheVariants.Mutex)).owners;
+      word = (get_or (el i) k (unlocked kind.Mutex)).word;
+      owners = (get_or (el i) k (unlocked kind.Mutex)).owners;
       main = e i;
       second = f i;
     }
@@ -171,9 +171,9 @@ module _ (w v : State) (t c m : ℕ) (apart : m ≢ c) (inductive : IsInductive 
         (taken_of owned (moved_of all (map queued_of (queue_at w (key_of c Main)))))
         (line_of owned (moved_of all (map queued_of (queue_at w (key_of c Main)))))
         (role_on (place_at w t) m)) where
-      role_m : (u : ℕ) → role_on (afterwards u) m ≡ (after_acts (rules_in w m) (acts t brings) site_m).role u
+      role_m : (u : ℕ) → role_on (afterwards u) m ≡ (after_acts (rules_in w m) (acts t will_bring) site_m).role u
       role_m = by_thread w t c m apart inductive p2 gone moved left counts lefts waits one_gone out bare now_c
-          any now_m alike_t fits (λ u p. role_on p m ≡ (after_acts (rules_in w m) (acts t brings) site_m).role
+          any now_m alike_t fits (λ u p. role_on p m ≡ (after_acts (rules_in w m) (acts t will_bring) site_m).role
           u)
           (own ∙ sym (put_here (λ u. role_on (place_at w u) m) t _))
           (λ u nu h. (waiter_of u (inl h)).taken.did_m
@@ -186,7 +186,7 @@ module _ (w v : State) (t c m : ℕ) (apart : m ≢ c) (inductive : IsInductive 
       brought : seen_in (rules_in w m) m (record (parts_at w m) {
         main = queue_at w (key_of m Main)
             ++ moved_under (key_of m Main) moved;
-      }) afterwards ≡ after_acts (rules_in w m) (acts t brings) site_m
+      }) afterwards ≡ after_acts (rules_in w m) (acts t will_bring) site_m
       brought = λ i. record site_m {
         lock = record site_m.lock {
           queue = (queued_both (queue_at w (key_of m Main)) (moved_under (key_of m Main) moved)
@@ -205,7 +205,7 @@ module _ (w v : State) (t c m : ℕ) (apart : m ≢ c) (inductive : IsInductive 
       module _ (present : t < length w.places) (unshared_c : has_readers (rules_in w c).sort ≡ false)
           (unshared_m : has_readers (rules_in w m).sort ≡ false)
           (needed_c : ActsNeeded (rules_in w c) (acts t sends) site_c)
-          (needed_m : ActsNeeded (rules_in w m) (acts t brings) site_m) where
+          (needed_m : ActsNeeded (rules_in w m) (acts t will_bring) site_m) where
         after_c : AfterIt w v afterwards c (acts t sends)
         after_c = record {
           parts = record (parts_at w c) { main = left };
@@ -219,7 +219,7 @@ module _ (w v : State) (t c m : ℕ) (apart : m ≢ c) (inductive : IsInductive 
           by = λ e. all_by (length w.places) t sends present;
         }
 
-        after_m : AfterIt w v afterwards m (acts t brings)
+        after_m : AfterIt w v afterwards m (acts t will_bring)
         after_m = record {
           parts = record (parts_at w m) {
             main = queue_at w (key_of m Main) ++ moved_under (key_of m Main)
@@ -233,7 +233,7 @@ module _ (w v : State) (t c m : ℕ) (apart : m ≢ c) (inductive : IsInductive 
           coded = word_same m (queue_at w (key_of m Main) ++ moved_under (key_of m Main) moved);
           sharers = refl;
           unshared = unshared_m;
-          by = λ e. all_by (length w.places) t brings present;
+          by = λ e. all_by (length w.places) t will_bring present;
         }
 
         same_else : (k : ℕ) → k ≢ c → k ≢ m → (parts_at v k ≡ parts_at w k)
@@ -248,13 +248,13 @@ module _ (w v : State) (t c m : ℕ) (apart : m ≢ c) (inductive : IsInductive 
 
         pub moves_kept : ((b : Bool) → any ≡ Some b → (b ≡ false) × ((u : ℕ) × (member u gone ≡ true)))
             → ((u : ℕ) → member u gone ≡ true → any ≡ Some false)
-            → GoesAll w v (two_at c m (acts t sends) (acts t brings))
+            → GoesAll w v (two_at c m (acts t sends) (acts t will_bring))
         moves_kept some full = record {
           follows = follow_two w v inductive afterwards places kinds (record {
             threads = threads;
             locks = λ i. length (el i);
             shares = λ i. length (eh i);
-          }) c m same_else (acts t sends) (acts t brings) apart after_c after_m;
+          }) c m same_else (acts t sends) (acts t will_bring) apart after_c after_m;
           stands = stands_by w v afterwards places kinds
               (subst (λ (f : ℕ → Option ℕ). AreThere (TakesOne w) (locations_of afterwards) f (queue_at v))
               (λ i key. get_or (sym es i) key None)

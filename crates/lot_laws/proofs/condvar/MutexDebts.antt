@@ -23,18 +23,18 @@ use Rattle.lot_laws.proofs.machine.Parts.{same}
 use Rattle.lot_laws.proofs.mutex.MutexRows.{decided_awake}
 use Rattle.lot_laws.proofs.promises.RowPromises.{IsDebtorIn}
 
--- ---------------------------------------------------------------- it is one at its mutex alone
+-- ---------------------------------------------------------------- a thread at its mutex alone
 
 -- a thread that does none of this owes nothing
-pub no_debt : (sort : Sort) (d : Role) (m : Line) → d.wakes ≡ None → d.covers ≡ false → d.retries ≡ None
+pub no_debt : (sort : Sort) (d : Role) (m : Line) → d.wakes ≡ None → d.owes_taken ≡ false → d.retries ≡ None
     → IsDebtorIn sort d m
     → ⊥
-no_debt sort d Main wakes covers retries (inl h) = let e : ◌≡◌ {A = Option Line} None (Some Main) = sym wakes
+no_debt sort d Main wakes owes_taken retries (inl h) = let e : ◌≡◌ {A = Option Line} None (Some Main) = sym wakes
     ∙ h in cc
-no_debt sort d Main wakes covers retries (inr (inl h)) = cc
-no_debt sort d Main wakes covers retries (inr (inr h)) = let e : false ≡ true =
+no_debt sort d Main wakes owes_taken retries (inr (inl h)) = cc
+no_debt sort d Main wakes owes_taken retries (inr (inr h)) = let e : false ≡ true =
     sym (ap (counts_some sort) retries) ∙ h in cc
-no_debt sort d Second wakes covers retries h = let e : ◌≡◌ {A = Option Line} None (Some Second) = sym wakes
+no_debt sort d Second wakes owes_taken retries h = let e : ◌≡◌ {A = Option Line} None (Some Second) = sym wakes
     ∙ h in cc
 
 pub idle_owes : (sort : Sort) (m : Line) → IsDebtorIn sort idle m → ⊥
@@ -61,7 +61,7 @@ debtor_beside sort c at l m debt = by_lock (c == l) (mutex_beside at) refl debt
         by_mutex true f d = (ap Some (eqb-true k l f), refl)
         by_mutex false f d = absurd (idle_owes sort m d)
 
--- ---------------------------------------------------------------- its acts
+-- ---------------------------------------------------------------- the acts
 
 -- the thread has the debt at its mutex, is awake, and stands nowhere, or is a wait that has released the
 -- mutex and owes there
@@ -240,7 +240,7 @@ no_second (Notify all m (notify.Leave any number)) reached h = by_number (number
     by_number false g = cc
 no_second (Notify all m at) reached h = cc
 
--- ---------------------------------------------------------------- its call
+-- ---------------------------------------------------------------- the call of the thread
 
 -- where its row says so, it owes on the main line of its mutex
 pub two_owe : (c : ℕ) (at : CondvarPlace) (l : ℕ) → mutex_beside at ≡ Some l → (condvar_row at).owes_mutex

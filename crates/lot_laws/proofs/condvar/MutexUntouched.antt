@@ -132,7 +132,7 @@ module _ (w : State) (t l m : ℕ) (at : CondvarPlace) (inductive : IsInductive 
         (λ h. let a : ◌≡◌ {A = Option Line} (Some Main) None = sym within
             ∙ sym (ap (λ (d : Role). d.inside) did) ∙ h in cc),
         ap (λ (d : Role). d.wakes) did,
-        ap (λ (d : Role). d.sets) did,
+        ap (λ (d : Role). d.bit_pending) did,
       ),
       tt,
     );
@@ -141,7 +141,7 @@ module _ (w : State) (t l m : ℕ) (at : CondvarPlace) (inductive : IsInductive 
       nobody : (u : ℕ) → hand_at (place_at w u) l ≡ hand t false → ⊥
       nobody u h = let a : carried_at (place_at w t) l ≡ Some false = inductive.stands.hands.taken t u l false
           h
-          in let b : carried_at (place_at w t) l ≡ None = ap (λ (y : Location). y.carries) was in
+          in let b : carried_at (place_at w t) l ≡ None = ap (λ (y : Location). y.has_taken) was in
           let c : ◌≡◌ {A = Option Bool} None (Some false) = sym b ∙ a in cc
 
       out_role : (after_acts r (acts t (Out ∷ [])) here).role t ≡ idle
@@ -202,7 +202,7 @@ module _ (w : State) (t l m : ℕ) (at : CondvarPlace) (inductive : IsInductive 
                     ∙ ap (λ (y : Location). y.inside) was_in,
                 parked,
                 ap (λ (d : Role). d.wakes) did,
-                ap (λ (d : Role). d.covers) did,
+                ap (λ (d : Role). d.owes_taken) did,
               ),
             ),
             tt,
@@ -255,7 +255,7 @@ module _ (w : State) (t l m : ℕ) (at : CondvarPlace) (inductive : IsInductive 
               (
                 subst (λ o. StandsIn here.lock t o) (sym (ap (λ (d : Role). d.inside) did
                     ∙ ap (λ (y : Location). y.inside) was_in)) not_second,
-                ap (λ (d : Role). d.carries) did,
+                ap (λ (d : Role). d.has_taken) did,
               ),
             ),
             tt,

@@ -183,7 +183,7 @@ module _ (w : State) (t l m : ℕ) (all : Bool) (inductive : IsInductive w) (is_
 
     nobody : (u : ℕ) → hand_at (place_at w u) m ≡ hand t false → ⊥
     nobody u h = let a : carried_at (place_at w t) m ≡ Some false = inductive.stands.hands.taken t u m false h
-        in let b : carried_at (place_at w t) m ≡ None = ap (λ (y : Location). y.carries)
+        in let b : carried_at (place_at w t) m ≡ None = ap (λ (y : Location). y.has_taken)
         (location_m leaves_at is over tt) in
         let c : ◌≡◌ {A = Option Bool} None (Some false) = sym b ∙ a in cc
 

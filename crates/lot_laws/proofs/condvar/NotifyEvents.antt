@@ -15,7 +15,7 @@ use Imports.{In, Main, MarkBrought, MarkOwned, Out, kept, State, can_do, kind_at
 use Imports.{word_at, IsMutexWord, acts, call_at, call_state, lock_state, locks_of, taken_at, FollowAll}
 use Imports.{IsInductive, condvar_of, rules_in, site_of}
 use Rattle.std.specs.Prelude.{is_some}
-use Rattle.spec_locks.specs.declared.outcomes.Outcome as outcome
+use Rattle.spec_locks.specs.declared.outcomes.Outcome.TheVariants as outcome
 use Rattle.steps_base.specs.declared.acts.Next.TheVariants as next
 use Rattle.steps_condvar.specs.declared.notify.NotifyAt.TheVariants as notify
 use Rattle.steps_condvar.specs.CondvarCalls.{or_else}
@@ -41,7 +41,7 @@ names_notify all m (next.End answer) = tt
 
 -- the thread never sleeps
 steps_on : (all : Bool) (l m : ℕ) (q : NotifyAt) → outcome_of (notify_act all l m q)
-    ≡ outcome.TheVariants.Step
+    ≡ outcome.Step
 steps_on all l m notify.Enter = refl
 steps_on all l m notify.Again = refl
 steps_on all l m notify.Hide = refl
@@ -93,7 +93,7 @@ module _ (w v : State) (t l m : ℕ) (all : Bool) (p : NotifyAt) (inductive : Is
 
   nobody_beside : notify_carries p ≢ Some false → HasTakenNobody (lock_state w m) t
   nobody_beside none = in_no_hand w inductive t m
-      (λ h. none (sym (ap (λ (y : Location). y.carries) (location_beside w t l (Notify all m p) inductive is m
+      (λ h. none (sym (ap (λ (y : Location). y.has_taken) (location_beside w t l (Notify all m p) inductive is m
       refl)) ∙ h))
 
   -- whether somebody owns the mutex
@@ -156,16 +156,16 @@ module _ (w v : State) (t l m : ℕ) (all : Bool) (p : NotifyAt) (inductive : Is
   wakes : (any : Bool) → notify_carries p ≡ in_hand any false → done l ≡ acts t (Out ∷ []) → done m
       ≡ acts t (Out ∷ End ∷ [])
       → IsEvent w v t (if any then AtLock m Wake else Nothing)
-  wakes true carries at_l at_m = two (Some Wake) None (led_by w v t l m apart_m inductive after done f
+  wakes true has_taken at_l at_m = two (Some Wake) None (led_by w v t l m apart_m inductive after done f
       elsewhere
       m (Some false) (Out ∷ End ∷ []) at_m tt (λ h. absurd (h refl)))
       (led_by w v t l m apart_m inductive after done f elsewhere l None (Out ∷ []) at_l tt
       (λ h. nobody_there))
       (inr refl)
-  wakes false carries at_l at_m = two None None (led_by w v t l m apart_m inductive after done f elsewhere m
+  wakes false has_taken at_l at_m = two None None (led_by w v t l m apart_m inductive after done f elsewhere m
       None
       (Out ∷ End ∷ []) at_m tt (λ h. nobody_beside (λ e. let none : ◌≡◌ {A = Option Bool} None (Some false) =
-      sym carries ∙ e in cc)))
+      sym has_taken ∙ e in cc)))
       (led_by w v t l m apart_m inductive after done f elsewhere l None (Out ∷ []) at_l tt
       (λ h. nobody_there))
       (inl refl)
@@ -248,7 +248,7 @@ module _ (w : State) (t l m : ℕ) (all : Bool) (p : NotifyAt) (inductive : IsIn
           u
           (listed u among)) (names u among) (aside u (listed u among) (names u among)).0;
       free = in_no_hand w inductive t m (λ h. let none : ◌≡◌ {A = Option Bool} None (Some false) =
-          sym (ap (λ (y : Location). y.carries) (location_beside w t l (Notify all m p) inductive is m refl)
+          sym (ap (λ (y : Location). y.has_taken) (location_beside w t l (Notify all m p) inductive is m refl)
           ∙ ap notify_carries e) ∙ h in cc);
     }
       where

@@ -2,7 +2,7 @@
 use Rattle.lot_laws.proofs.Imports
 use Imports.{ℕ, Bool, true, false, ◌≡◌, ◌≢◌, ◌<◌, List, [], ◌∷◌, length, refl, sym, subst, Reply, Place}
 use Imports.{Condvar, condvar_goes, next_place, NotifyAt, CondvarPlace, Notify, IsReached, notify_deeds}
-use Imports.{beside_deeds, brings, condvar_next, move_act, notify_act, IsCondvar, WaitsAside, Deed, Main, Send}
+use Imports.{beside_deeds, will_bring, condvar_next, move_act, notify_act, IsCondvar, WaitsAside, Deed, Main, Send}
 use Imports.{State, can_do, place_at, put, reply_to, state_after_act, acts, FitsItsLock, Goes, GoesAll}
 use Imports.{IsInductive, condvar_of, key_of, rules_in, site_of}
 use Rattle.steps_condvar.specs.declared.notify.NotifyAt.TheVariants as notify
@@ -24,7 +24,7 @@ moves_deeds : (w : State) (t l m : ℕ) (all locked : Bool)
       there_deeds (notify_deeds all m (notify.Move locked) (reply_to w t (move_act all locked l m))),
       beside_deeds all (condvar_of w l).waiters (notify.Move locked) (reply_to w t (move_act all locked l m)),
     )
-    (Send all ∷ [], brings all locked (condvar_of w l).waiters)
+    (Send all ∷ [], will_bring all locked (condvar_of w l).waiters)
 moves_deeds w t l m true true = refl
 moves_deeds w t l m true false = refl
 moves_deeds w t l m false true = refl

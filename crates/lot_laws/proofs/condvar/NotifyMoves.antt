@@ -153,9 +153,9 @@ module _ (w : State) (t l m : ℕ) (all locked : Bool) (inductive : IsInductive 
     now_l : location_at p2 l ≡ location_at (place_at w t) l
     now_l = location_there l m apart (condvar_next this told) beside ∙ x.stays ∙ sym location_l
 
-    now_m : location_at p2 m ≡ record (location_at (place_at w t) m) { carries = in_hand (not locked) false }
-    now_m = location_beside l m apart (condvar_next this told) beside ∙ x.carries
-        ∙ sym (ap (λ (y : Location). record y { carries = in_hand (not locked) false }) location_m)
+    now_m : location_at p2 m ≡ record (location_at (place_at w t) m) { has_taken = in_hand (not locked) false }
+    now_m = location_beside l m apart (condvar_next this told) beside ∙ x.has_taken
+        ∙ sym (ap (λ (y : Location). record y { has_taken = in_hand (not locked) false }) location_m)
 
     alike_t : (k : ℕ) → k ≢ l → k ≢ m → Alike k (place_at w t) p2
     alike_t k nl nm = subst (λ q. Alike k q p2) (sym is)
@@ -175,7 +175,7 @@ module _ (w : State) (t l m : ℕ) (all locked : Bool) (inductive : IsInductive 
     same_m : taken_at p2 m ≡ taken_at (place_at w t) m
     same_m = taken_beside l m apart (condvar_next this told) beside
         ∙ ap (λ h. taken_from h (row_at_mutex (condvar_next this told)).wants true)
-        (ap (λ (y : Location). y.hand) x.carries) ∙ sym (ap (λ q. taken_at q m) is
+        (ap (λ (y : Location). y.hand) x.has_taken) ∙ sym (ap (λ q. taken_at q m) is
         ∙ taken_beside l m apart (At this) refl)
 
     needed_l : ActsNeeded (rules_in w l) (acts t (Send all ∷ [])) (site_of w l)
@@ -232,8 +232,8 @@ module _ (w : State) (t l m : ℕ) (all locked : Bool) (inductive : IsInductive 
       out : (location_at (place_at w t) l).stands ≡ None
       out = ap (λ (y : Location). y.stands) (location_l ∙ x.inside.0)
 
-      bare : (location_at (place_at w t) m).carries ≡ None
-      bare = ap (λ (y : Location). y.carries) location_m
+      bare : (location_at (place_at w t) m).has_taken ≡ None
+      bare = ap (λ (y : Location). y.has_taken) location_m
 
       abbrev afterwards : ℕ → Place
       afterwards = places_across w t l m apart inductive p2 gone moved left counts lefts across one_gone out

@@ -50,7 +50,7 @@ module _ (w : State) (t l m : ℕ) (all : Bool) where
         → Follow (notify.Leave true number) p2
     wakes number is p2 h = wake_follows w t m inductive (subst (CarriesAt m) (sym is)
         (condvar_carries l m apart this refl)) (ap (λ q. carried_at q m) is
-        ∙ ap (λ (y : Location). y.carries) (location_beside l m apart (At this) refl)) p2
+        ∙ ap (λ (y : Location). y.has_taken) (location_beside l m apart (At this) refl)) p2
         (state_with_sections w (Two (2 * l) (2 * m)) None) refl h
       where
         this : CondvarPlace

@@ -74,7 +74,7 @@ module _ (w : State) (t l m : ℕ) (all : Bool) (inductive : IsInductive w) (is_
 
   -- the thread stands in no line and no hand, and has somebody in hand at the mutex alone
   carries_here : CarriesAt m (place_at w t)
-  carries_here k ne = by_lock (λ k y. k ≢ m → y.carries ≡ None) (λ h. refl) (λ h. absurd (h refl))
+  carries_here k ne = by_lock (λ k y. k ≢ m → y.has_taken ≡ None) (λ h. refl) (λ h. absurd (h refl))
       (λ k h. refl) k ne
 
   unheld : (k : ℕ) → hand_at (place_at w t) k ≡ None
@@ -87,7 +87,7 @@ module _ (w : State) (t l m : ℕ) (all : Bool) (inductive : IsInductive w) (is_
   holds = holds_here w t m inductive carries_here
 
   woken : (u : ℕ) (b : Bool) → hand_at (place_at w u) m ≡ hand t b → IsWokenAt w t m Normal (place_at w u)
-  woken u b held = by_hand b held (sym (ap (λ (y : Location). y.carries) location_m)
+  woken u b held = by_hand b held (sym (ap (λ (y : Location). y.has_taken) location_m)
       ∙ inductive.stands.hands.taken t u m b held)
     where
       by_hand : (b : Bool) → hand_at (place_at w u) m ≡ hand t b → Some false ≡ Some b
@@ -213,7 +213,7 @@ module _ (w : State) (t l m : ℕ) (all : Bool) (inductive : IsInductive w) (is_
 
   -- ---------------------------------------------------------------- how the threads stand then
 
-  -- but for the threads that it has in hand
+  -- all threads but those that the notifier has in hand
   abbrev outside : ℕ → ℕ → Location
   outside u k = if u == t then record (location_at (place_at w u) k) { inside = None } else location_at
       (place_at w u) k

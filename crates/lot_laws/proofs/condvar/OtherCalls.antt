@@ -74,19 +74,19 @@ two_calm m l (Some a) y h g = h
 pub condvar_carries : (l m : ℕ) → m ≢ l → (at : CondvarPlace) → mutex_beside at ≡ Some m
     → CarriesAt m (Condvar l at)
 condvar_carries l m apart at of k ne = elim (cases_eq k l) [
-  | inl e ↦ subst (λ j. carried_at (Condvar l at) j ≡ None) (sym e) (ap (λ (y : Location). y.carries)
+  | inl e ↦ subst (λ j. carried_at (Condvar l at) j ≡ None) (sym e) (ap (λ (y : Location). y.has_taken)
       (location_there l m apart (At at) of))
-  | inr nl ↦ ap (λ (y : Location). y.carries) (nothing_there l m apart (At at) of k nl ne)
+  | inr nl ↦ ap (λ (y : Location). y.has_taken) (nothing_there l m apart (At at) of k nl ne)
 ]
 
 -- a thread that it took there is woken
-module _ (w : State) (t m : ℕ) (inductive : IsInductive w) (carries : CarriesAt m (place_at w t))
+module _ (w : State) (t m : ℕ) (inductive : IsInductive w) (has_taken : CarriesAt m (place_at w t))
     (took : carried_at (place_at w t) m ≡ Some false) (p2 : Place) where
   in_hand : (u : ℕ) → is_thread t (taker (place_at w u)) ≡ true → hand_at (place_at w u) m ≡ hand t false
   in_hand u e =
       let x : IsInHandOf (place_at w u) t = in_hand_where (place_at w u) t (aparts w inductive u) e in
       let here = subst (λ k. hand_at (place_at w u) k ≡ hand t x.handed) (in_hand_here (place_at w)
-      inductive.stands.hands t m u carries x) x.hand in
+      inductive.stands.hands t m u has_taken x) x.hand in
       let there : carried_at (place_at w t) m ≡ Some x.handed = inductive.stands.hands.taken t u m x.handed
       here
       in
@@ -207,7 +207,7 @@ module _ (w : State) (t l m : ℕ) (timed : Bool) (inductive : IsInductive w) (p
   relock_quiet late again (lock.Handed by) of can = absurd cc
   relock_quiet late again at of can = absurd of
 
-  -- but where it wakes the threads that it took
+  -- all acts but a wake of the threads that were taken
   abbrev pub IsWaking : WaitAt → Type 0
   IsWaking (wait.Release s (mutex.Unlock (unlock.Leave true))) = Unit {0}
   IsWaking p = ⊥
@@ -265,7 +265,7 @@ module _ (w : State) (t l m : ℕ) (timed : Bool) (inductive : IsInductive w) (p
         (AtLock m locks.Wake)
     wakes s is p2 h = wake_follows w t m inductive (subst (CarriesAt m) (sym is)
         (condvar_carries l m apart this refl)) (ap (λ q. carried_at q m) is
-        ∙ ap (λ (y : Location). y.carries) (location_beside l m apart (At this) refl)) p2
+        ∙ ap (λ (y : Location). y.has_taken) (location_beside l m apart (At this) refl)) p2
         (state_with_sections w (One (2 * m)) None) refl h
       where
         this : CondvarPlace

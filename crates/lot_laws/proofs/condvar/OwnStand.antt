@@ -8,7 +8,7 @@ use Imports.{WaitAt, IsLockOf, IsReached, wait_row, stands_after, comes_from_ano
 use Imports.{condvar_next, release_next, released, Place, Idle, Condvar, condvar_goes, next_place, State}
 use Imports.{place_at, reply_to, state_after_act, state_after_going, acted_keeps, tells, performed_counts}
 use Rattle.core_base.specs.declared.notes.Note.TheVariants as note
-use Rattle.core_base.specs.declared.ops.Op as op
+use Rattle.core_base.specs.declared.ops.Op.TheVariants as op
 use Rattle.steps_base.specs.declared.acts.Act.TheVariants as act
 use Rattle.steps_base.specs.declared.acts.Next.TheVariants as next
 use Rattle.steps_mutex.specs.declared.places.MutexPlace.TheVariants as mutex
@@ -82,8 +82,8 @@ module _ (l : ℕ) where
     where
       decides : (a b : Bool)
           → tells
-          (if not a then act.Word m (op.TheVariants.Exchange seen (seen + 1)) else if b then act.Word m
-          (op.TheVariants.Exchange 1 3) else act.Enter (One (2 * m)))
+          (if not a then act.Word m (op.Exchange seen (seen + 1)) else if b then act.Word m
+          (op.Exchange 1 3) else act.Enter (One (2 * m)))
           ≡ false
       decides false b = refl
       decides true true = refl
@@ -108,7 +108,7 @@ module _ (l : ℕ) where
   act_keeps (Wait m timed (wait.Lock late a)) reached loud = absurd reached.1
   act_keeps (Wait m timed at) reached loud = absurd cc
 
--- ---------------------------------------------------------------- its next row
+-- ---------------------------------------------------------------- the next row
 
 pub alike_same : (n : Next CondvarPlace) → Alike n n
 alike_same (next.At q) = (refl, refl)

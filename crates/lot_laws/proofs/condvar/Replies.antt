@@ -254,7 +254,7 @@ module _ (w : State) (t l : ℕ) (at : CondvarPlace) (inductive : IsInductive w)
 
       releasing_hears : (s : WaiterFate) (p : UnlockAt)
           → (has_mutex s ≡ true → (mutex_profile (mutex.Unlock p)).role.claims ≡ None)
-          → carried_at (place_at w t) m ≡ (mutex_profile (mutex.Unlock p)).carries → can_do w (unlock_act m p)
+          → carried_at (place_at w t) m ≡ (mutex_profile (mutex.Unlock p)).has_taken → can_do w (unlock_act m p)
           ≡ true
           → MayHearReleasing rules there t s p (taken_first w m p) (reply_to w t (unlock_act m p))
       releasing_hears s unlock.Subtract free carried can = (word_beside, unowned (has_mutex s) refl)
@@ -308,8 +308,8 @@ module _ (w : State) (t l m : ℕ) (timed : Bool) (at : WaitAt) (inductive : IsI
       → standing t site_m.lock ≡ 0
   out_of_line = nowhere_beside w t l (Wait m timed at) inductive is m refl
 
-  carried : carried_at (place_at w t) m ≡ (mutex_side (Wait m timed at)).carries
-  carried = ap (λ (y : Location). y.carries) (location_beside w t l (Wait m timed at) inductive is m refl)
+  carried : carried_at (place_at w t) m ≡ (mutex_side (Wait m timed at)).has_taken
+  carried = ap (λ (y : Location). y.has_taken) (location_beside w t l (Wait m timed at) inductive is m refl)
 
   pub waiter_hears : can_do w (wait_act l m at) ≡ true
       → MayHearWaiter (rules_in w m) site_m t at (taken_by_wait w m at) (reply_to w t (wait_act l m at))
@@ -326,7 +326,7 @@ module _ (w : State) (t l m : ℕ) (timed : Bool) (at : WaitAt) (inductive : IsI
           refl
           s p
           (subst (λ q. IsReached (Wait m timed q)) e wait_reached).1 (carried
-          ∙ ap (λ q. (mutex_side (Wait m timed q)).carries) e)
+          ∙ ap (λ q. (mutex_side (Wait m timed q)).has_taken) e)
           (subst (λ q. can_do w (wait_act l m q) ≡ true) e can)
       by_place (wait.Release s p) e = absurd (subst (λ q. IsReached (Wait m timed q)) e wait_reached).0
       by_place (wait.Asleep s) e = absurd (let no : can_do w (wait_act l m (wait.Asleep s)) ≡ true =

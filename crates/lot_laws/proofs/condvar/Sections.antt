@@ -7,7 +7,7 @@ use Imports.{Act, in_line, Location, LockAt, is_locked, lock_act, NotifyAt, Cond
 use Imports.{WaitAt, IsLockOf, IsReached, condvar_row, has_moved, section_in, inside, condvar_act, move_act}
 use Imports.{mutex_beside, Condvar, is_lock, Line, Main, Second, State, place_at, queue_at, section_at}
 use Imports.{location_at, FitsItsLock, IsInductive, key_of, stood_in}
-use Rattle.core_base.specs.declared.ops.Op as op
+use Rattle.core_base.specs.declared.ops.Op.TheVariants as op
 use Rattle.steps_base.specs.declared.acts.Act.TheVariants as act
 use Rattle.steps_mutex.specs.declared.places.MutexPlace.TheVariants as mutex
 use Rattle.steps_mutex.specs.declared.lock.Entry.TheVariants as entry
@@ -62,8 +62,8 @@ module _ (c m : ℕ) where
     where
       decides : (a b : Bool)
           → IsActOfTwo c (Wait m timed (wait.Lock late (mutex.Lock entry.Lock r (lock.Decide x))))
-          (if not a then act.Word m (op.TheVariants.Exchange x (x + 1)) else if b then act.Word m
-          (op.TheVariants.Exchange 1 3) else act.Enter (One (2 * m)))
+          (if not a then act.Word m (op.Exchange x (x + 1)) else if b then act.Word m
+          (op.Exchange 1 3) else act.Enter (One (2 * m)))
       decides false b = tt
       decides true true = tt
       decides true false = inr (m, refl, refl)

@@ -11,7 +11,7 @@ use Imports.{AtLock, Begins, LocksState, is_among, is_closure, is_taken_by, Call
 use Imports.{MayMove, Moves, Nothing, going_on, woken, Deed, Site, deeds_lead, deeds_need, State, kind_at}
 use Imports.{place_at, acts, call_at, call_on_both, call_state, lock_state, locks_of, taken_at, ActsNeeded}
 use Imports.{FollowAll, IsInductive, after_acts, rules_in, site_of}
-use Rattle.spec_locks.specs.declared.outcomes.Outcome as outcome
+use Rattle.spec_locks.specs.declared.outcomes.Outcome.TheVariants as outcome
 use Rattle.steps_base.specs.declared.acts.Next.TheVariants as next
 use Rattle.steps_condvar.specs.CondvarCalls as calls
 use Rattle.steps_condvar.specs.CondvarCalls.{or_else}
@@ -103,7 +103,7 @@ module _ (w v : State) (t c m : ℕ) (apart : m ≢ c) (before : IsInductive w) 
       (led_by c None (there_deeds (wait_deeds m p told)) at_c one_c (λ h. free_c)))
       alone
 
--- ---------------------------------------------------------------- its call
+-- ---------------------------------------------------------------- the call of the thread
 
 -- the next place is one of a call that names the same mutex
 abbrev pub NamesStill : ℕ → Next CondvarPlace → Type 0
@@ -113,7 +113,7 @@ NamesStill m (next.End answer) = Unit {0}
 -- the thread is told of its next act, and stands somewhere if it is told to sleep; or of its answer
 abbrev pub ToldSo : State → ℕ → Next CondvarPlace → Outcome → Type 0
 ToldSo v t (next.At q) o = (l : ℕ) × GoesAs v t l o
-ToldSo v t (next.End answer) o = o ≡ outcome.TheVariants.End answer
+ToldSo v t (next.End answer) o = o ≡ outcome.End answer
 
 -- the thread's call is that of its place at both locks
 pub call_named : (w : State) (t l m : ℕ) (p : CondvarPlace) → place_at w t ≡ Condvar l p → mutex_beside p
@@ -187,13 +187,13 @@ runs_nothing_here l (Notify all m at) = tt
 pub begins_two : (w : LocksState) (l : ℕ) (p : CondvarPlace) (e : Event) (o : Outcome)
     → MayComeOfTwo l (condvar_profile p) e
     → is_closure o ≡ false → Begins w e o
-begins_two w l p Nothing (outcome.TheVariants.Closure state) may told = absurd cc
+begins_two w l p Nothing (outcome.Closure state) may told = absurd cc
 begins_two w l p Nothing o may told = tt
-begins_two w l p (Moves c m all owned number) (outcome.TheVariants.Closure state) may told = absurd cc
+begins_two w l p (Moves c m all owned number) (outcome.Closure state) may told = absurd cc
 begins_two w l p (Moves c m all owned number) o may told = tt
 begins_two w l p (AtLock k (OfOnce (Start forced))) o may told =
     absurd (never_starts ((condvar_profile p).purpose l) _ _ _ k forced (runs_nothing_here l p) may.0)
-begins_two w l p (AtLock k case) (outcome.TheVariants.Closure state) may told = absurd cc
+begins_two w l p (AtLock k case) (outcome.Closure state) may told = absurd cc
 begins_two w l p (AtLock k case) o may told = tt
 
 pub no_closure : (l : ℕ) (n : Next CondvarPlace) → is_closure (outcome_of (condvar_does l n)) ≡ false

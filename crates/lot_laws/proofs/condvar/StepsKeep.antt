@@ -15,7 +15,7 @@ use Imports.{AreCounted, FitsCondvar, FitsItsLock, IsInductive, condvar_of, insi
 use Imports.{stood_in}
 use Rattle.spec_locks.specs.declared.calls.CondvarCall.TheVariants as calls
 use Rattle.spec_locks.specs.declared.calls.Call.TheVariants as call
-use Rattle.spec_locks.specs.declared.calls.Turn as turn
+use Rattle.spec_locks.specs.declared.calls.Turn.TheVariants as turn
 use Rattle.steps_mutex.specs.declared.places.MutexPlace.TheVariants as mutex
 use Rattle.steps_mutex.specs.declared.lock.LockAt.TheVariants as lock
 use Rattle.steps_condvar.specs.declared.wait.WaiterFate.TheVariants as stands
@@ -194,27 +194,27 @@ module _ (w : State) (s : Step) (shape : IsWellFormed w) (inductive : IsInductiv
 
   turned : t < length w.places → (x : Turn) → can_turn w t x ≡ true → v ≡ state_after_turn w t x
       → IsCondvar (condvar_of v l)
-  turned there turn.TheVariants.Go can led = goes_on w v t l at shape inductive stands_then is there lt
+  turned there turn.Go can led = goes_on w v t l at shape inductive stands_then is there lt
       condvar
       says section (led ∙ ap (state_after_going w t) is) (ap (λ p. can_do w (act_of p)) (sym is) ∙ can)
-  turned there turn.TheVariants.Late can led = late w v t l at shape inductive stands_then is there lt condvar
+  turned there turn.Late can led = late w v t l at shape inductive stands_then is there lt condvar
       says section (led ∙ ap (λ p. state_after_late_on w t (late_key p)) is)
       (ap (λ p. is_free_under w (late_key p)) (sym is) ∙ can)
-  turned there turn.TheVariants.Spin can led = by_look (respins_from (place_at w t)) refl led
+  turned there turn.Spin can led = by_look (respins_from (place_at w t)) refl led
     where
       by_look : (o : Option Place) → respins_from (place_at w t) ≡ o → v ≡ state_after_look w t o
           → IsCondvar (condvar_of v l)
       by_look None e f = subst (λ (x : State). IsCondvar (condvar_of x l)) (sym f) condvar
       by_look (Some q) e f = looks q there e f
-  turned there turn.TheVariants.Ok can led =
+  turned there turn.Ok can led =
       absurd (let runs = (both (runs_closure (act_of (place_at w t))) _ can).0
       in let none : runs_closure (act_of (place_at w t)) ≡ false = ap (λ p. runs_closure (act_of p)) is
       ∙ condvar_runs_none l at in cc)
-  turned there turn.TheVariants.Err can led =
+  turned there turn.Err can led =
       absurd (let runs = (both (runs_closure (act_of (place_at w t))) _ can).0
       in let none : runs_closure (act_of (place_at w t)) ≡ false = ap (λ p. runs_closure (act_of p)) is
       ∙ condvar_runs_none l at in cc)
-  turned there (turn.TheVariants.Begin c) can led =
+  turned there (turn.Begin c) can led =
       absurd (let idle = (both (is_idle (place_at w t)) (is_open_to w t c) can).0
       in let busy : is_idle (place_at w t) ≡ false = ap is_idle is in cc)
 
@@ -365,20 +365,20 @@ after_condvars w s shape inductive counted condvars l sort_then =
 
         turned_idle : s.thread < length w.places → (x : Turn) → can_turn w s.thread x ≡ true
             → after w s ≡ state_after_turn w s.thread x → IsCondvar (condvar_of (after w s) l)
-        turned_idle there (turn.TheVariants.Begin c) can led = by_call there c led
-        turned_idle there turn.TheVariants.Go can led =
+        turned_idle there (turn.Begin c) can led = by_call there c led
+        turned_idle there turn.Go can led =
             absurd (let no : can_do w (act_of (place_at w s.thread)) ≡ false =
             ap (λ p. can_do w (act_of p)) idle in cc)
-        turned_idle there turn.TheVariants.Late can led =
+        turned_idle there turn.Late can led =
             absurd (let no : is_free_under w (late_key (place_at w s.thread)) ≡ false =
             ap (λ p. is_free_under w (late_key p)) idle in cc)
-        turned_idle there turn.TheVariants.Spin can led =
+        turned_idle there turn.Spin can led =
             absurd (let no : is_some (respins_from (place_at w s.thread)) ≡ false =
             ap (λ p. is_some (respins_from p)) idle in cc)
-        turned_idle there turn.TheVariants.Ok can led = absurd (let runs =
+        turned_idle there turn.Ok can led = absurd (let runs =
             (both (runs_closure (act_of (place_at w s.thread))) _ can).0 in let none : runs_closure
             (act_of (place_at w s.thread)) ≡ false = ap (λ p. runs_closure (act_of p)) idle in cc)
-        turned_idle there turn.TheVariants.Err can led =
+        turned_idle there turn.Err can led =
             absurd (let runs = (both (runs_closure (act_of (place_at w s.thread))) _ can).0
             in let none : runs_closure (act_of (place_at w s.thread)) ≡ false =
             ap (λ p. runs_closure (act_of p)) idle in cc)

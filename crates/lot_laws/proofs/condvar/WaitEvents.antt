@@ -11,7 +11,7 @@ use Imports.{Rights, Rules, rights_of, CallState, Event, GoesOn, MayHappen, Move
 use Imports.{Mark, Site, State, can_do, place_at, reply_to, word_at, rights_where, Location, Condvar}
 use Imports.{condvar_does, condvar_goes, acts, call_at, call_state, lock_state, locks_of, FollowAll}
 use Imports.{IsInductive, condvar_of, rules_in, site_of}
-use Rattle.core_base.specs.declared.ops.Op as op
+use Rattle.core_base.specs.declared.ops.Op.TheVariants as op
 use Rattle.steps_base.specs.declared.acts.Act.TheVariants as act
 use Rattle.steps_base.specs.declared.acts.Next.TheVariants as next
 use Rattle.steps_base.specs.declared.acts.TakeWhich.TheVariants as whoms
@@ -34,7 +34,7 @@ use Rattle.lot_laws.proofs.condvar.Replies.{location_beside, taken_by_wait, wait
 use Rattle.lot_laws.proofs.machine.Parts.{same}
 use Rattle.lot_laws.proofs.condvar.MutexUntouched.{there_deeds}
 
--- -------------------------------------------------- its effect is on one of the two locks, and never on both
+-- -------------------------------------------------- the effect is on one of the two locks, and never on both
 
 -- a thread is never told of its own step that its time is up
 pub unheard : (w : State) (t : ℕ) (a : Act) (c : CallState) → heard (reply_to w t a) c ≡ c
@@ -94,8 +94,8 @@ module _ (w : State) (t l m : ℕ) where
 
     decides_one : (seen : ℕ) (a b : Bool)
         → OneAtATime m (wait.Lock late (mutex.Lock entry.Lock again (lock.Decide seen))) None
-        (reply_to w t (if not a then act.Word m (op.TheVariants.Exchange seen (seen + 1)) else if b
-        then act.Word m (op.TheVariants.Exchange 1 3) else act.Enter (One (2 * m))))
+        (reply_to w t (if not a then act.Word m (op.Exchange seen (seen + 1)) else if b
+        then act.Word m (op.Exchange 1 3) else act.Enter (One (2 * m))))
     decides_one seen false b = locks_one (lock.Decide seen) (Value (word_at w m))
         (word_seen (word_at w m == seen) (is_locked (word_at w m)))
     decides_one seen true true = locks_one (lock.Decide seen) (Value (word_at w m))
@@ -217,7 +217,7 @@ module _ (w v : State) (t l m : ℕ) (timed : Bool) (p : WaitAt) (inductive : Is
 
   nobody_beside : wait_carries p ≢ Some false → HasTakenNobody (lock_state w m) t
   nobody_beside none = in_no_hand w inductive t m
-      (λ h. none (sym (ap (λ (y : Location). y.carries) (location_beside w t l (Wait m timed p) inductive is m
+      (λ h. none (sym (ap (λ (y : Location). y.has_taken) (location_beside w t l (Wait m timed p) inductive is m
       refl)) ∙ h))
 
   pub wait_happened : IsEvent w v t event

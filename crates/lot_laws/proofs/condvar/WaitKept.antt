@@ -110,7 +110,7 @@ module _ (w : State) (t l m : ℕ) (timed : Bool) (inductive : IsInductive w) (i
         (subst (λ o. Goes w (put (after at a) t next) m (acts t (waiter_deeds at o (told a)))) (sym nobody)
         (g fits)))
 
-  -- ---------------------------------------------------------------- it releases its mutex
+  -- ---------------------------------------------------------------- the mutex is released
 
   abbrev releasing : WaiterFate → UnlockAt → WaitAt
   releasing s at = wait.Release s (mutex.Unlock at)
@@ -132,7 +132,7 @@ module _ (w : State) (t l m : ℕ) (timed : Bool) (inductive : IsInductive w) (i
   release_goes s (unlock.Leave false) is can = λ fits. of_other w _ l m apart inductive [] _ refl
       (leaves_nobody w t l m timed inductive is_there apart sort_m plain section_m s is fits)
 
-  -- ---------------------------------------------------------------- it locks it again
+  -- ---------------------------------------------------------------- the mutex is locked again
 
   abbrev relocks : Bool → Bool → LockAt → WaitAt
   relocks late retries at = wait.Lock late (mutex.Lock entry.Lock retries at)

@@ -9,7 +9,7 @@ use Imports.{mutex_beside, next_wait, released, relocked, wait_act, Place, Idle,
 use Imports.{Semaphore, is_lock, Main, has_readers, State, can_do, place_at, reply_to, section_at, word_at}
 use Imports.{location, location_at, FitsItsLock, IsInductive, carried_at, key_of, rules_in}
 use Rattle.core_base.specs.declared.notes.Note.TheVariants as note
-use Rattle.core_base.specs.declared.ops.Op as op
+use Rattle.core_base.specs.declared.ops.Op.TheVariants as op
 use Rattle.steps_base.specs.Locations.{nowhere}
 use Rattle.steps_base.specs.declared.acts.Act.TheVariants as act
 use Rattle.spec_locks.specs.declared.outcomes.Answer.TheVariants as answer
@@ -31,7 +31,7 @@ use Rattle.lot_laws.proofs.condvar.WaitSleeps.{IsSettled, IsSettledNext}
 -- ---------------------------------------------------------------- a thread that has handed a mutex over
 
 -- by its place
-handed_mutex : (at : MutexPlace) → (mutex_profile at).carries ≡ Some true
+handed_mutex : (at : MutexPlace) → (mutex_profile at).has_taken ≡ Some true
     → (b : Bool) × (at ≡ mutex.HandOff b (hand_off.Leave true))
 handed_mutex (mutex.Lock e again a) h = absurd cc
 handed_mutex mutex.TryLock h = absurd cc
@@ -76,7 +76,7 @@ module _ (w : State) (inductive : IsInductive w) (u m : ℕ) (sort : (rules_in w
       by_place Idle is fits h = absurd cc
       by_place (Mutex k at) is fits h = either (k == m) refl h
         where
-          either : (b : Bool) → (k == m) ≡ b → (if b then location (Mutex k at) else nowhere).carries
+          either : (b : Bool) → (k == m) ≡ b → (if b then location (Mutex k at) else nowhere).has_taken
               ≡ Some true
               → (b : Bool) × (place_at w u ≡ Mutex m (mutex.HandOff b (hand_off.Leave true)))
           either true e g = let x = handed_mutex at g in (
@@ -87,7 +87,7 @@ module _ (w : State) (inductive : IsInductive w) (u m : ℕ) (sort : (rules_in w
           either false e g = absurd cc
       by_place (RwLock k a c) is fits h = either (k == m) refl h
         where
-          either : (b : Bool) → (k == m) ≡ b → (if b then location (RwLock k a c) else nowhere).carries
+          either : (b : Bool) → (k == m) ≡ b → (if b then location (RwLock k a c) else nowhere).has_taken
               ≡ Some true
               → (b : Bool) × (place_at w u ≡ Mutex m (mutex.HandOff b (hand_off.Leave true)))
           either true e g = absurd (let both : false ≡ true =
@@ -95,7 +95,7 @@ module _ (w : State) (inductive : IsInductive w) (u m : ℕ) (sort : (rules_in w
           either false e g = absurd cc
       by_place (Once k at) is fits h = either (k == m) refl h
         where
-          either : (b : Bool) → (k == m) ≡ b → (if b then location (Once k at) else nowhere).carries
+          either : (b : Bool) → (k == m) ≡ b → (if b then location (Once k at) else nowhere).has_taken
               ≡ Some true
               → (b : Bool) × (place_at w u ≡ Mutex m (mutex.HandOff b (hand_off.Leave true)))
           either true e g = absurd (let both : locks.Once ≡ locks.Mutex = sym fits
@@ -103,7 +103,7 @@ module _ (w : State) (inductive : IsInductive w) (u m : ℕ) (sort : (rules_in w
           either false e g = absurd cc
       by_place (Semaphore k at) is fits h = either (k == m) refl h
         where
-          either : (b : Bool) → (k == m) ≡ b → (if b then location (Semaphore k at) else nowhere).carries
+          either : (b : Bool) → (k == m) ≡ b → (if b then location (Semaphore k at) else nowhere).has_taken
               ≡ Some true
               → (b : Bool) × (place_at w u ≡ Mutex m (mutex.HandOff b (hand_off.Leave true)))
           either true e g = absurd (let both : locks.Semaphore ≡ locks.Mutex = sym fits.0
@@ -113,7 +113,7 @@ module _ (w : State) (inductive : IsInductive w) (u m : ℕ) (sort : (rules_in w
         where
           either : (b there : Bool) → (k == m) ≡ b
               → (if b then location_by (condvar_profile at) else if there then location_by (mutex_side at)
-              else nowhere).carries
+              else nowhere).has_taken
               ≡ Some true
               → (b : Bool) × (place_at w u ≡ Mutex m (mutex.HandOff b (hand_off.Leave true)))
           either true there e g = absurd (let both : locks.Condvar ≡ locks.Mutex = sym fits.sort
@@ -200,8 +200,8 @@ module _ (w : State) (t l m : ℕ) (timed : Bool) (inductive : IsInductive w) wh
     decides : (seen : ℕ) (again a b : Bool)
         → IsSettledNext
         (relocked timed late (mutex_next (mutex.Lock entry.Lock again (lock.Decide seen))
-        (reply_to w t (if not a then act.Word m (op.TheVariants.Exchange seen (seen + 1)) else if b
-        then act.Word m (op.TheVariants.Exchange 1 3) else act.Enter (One (2 * m))))))
+        (reply_to w t (if not a then act.Word m (op.Exchange seen (seen + 1)) else if b
+        then act.Word m (op.Exchange 1 3) else act.Enter (One (2 * m))))))
     decides seen again false b = sees seen again (not (word_at w m == seen)) (is_locked (word_at w m))
     decides seen again true true = sees seen again (not (word_at w m == seen)) (is_locked (word_at w m))
     decides seen again true false = tt

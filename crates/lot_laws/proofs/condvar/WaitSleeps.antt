@@ -4,8 +4,8 @@ use Imports.{ℕ, Bool, true, false, Some, None, if◌then◌else◌, ◌==◌, 
 use Imports.{◌∙◌, ap, arith, One, outcome_of, Location, Next, is_locked, Wait, WaitAt, IsReached, wait_row}
 use Imports.{in_wait, wait_act, Condvar, condvar_does, condvar_goes, one_if_some, standing, Main, State}
 use Imports.{place_at, lock_state, taken_at, location_at, IsInductive, stood_in}
-use Rattle.core_base.specs.declared.ops.Op as op
-use Rattle.spec_locks.specs.declared.outcomes.Outcome as outcome
+use Rattle.core_base.specs.declared.ops.Op.TheVariants as op
+use Rattle.spec_locks.specs.declared.outcomes.Outcome.TheVariants as outcome
 use Rattle.steps_base.specs.declared.acts.Act.TheVariants as act
 use Rattle.steps_base.specs.declared.acts.Next.TheVariants as next
 use Rattle.steps_mutex.specs.declared.places.MutexPlace.TheVariants as mutex
@@ -91,9 +91,9 @@ module _ (v : State) (t l m : ℕ) (timed : Bool) (inductive : IsInductive v) wh
     where
       decides : (a b : Bool)
           → outcome_of
-          (if not a then act.Word m (op.TheVariants.Exchange seen (seen + 1)) else if b then act.Word m
-          (op.TheVariants.Exchange 1 3) else act.Enter (One (2 * m)))
-          ≡ outcome.TheVariants.Step
+          (if not a then act.Word m (op.Exchange seen (seen + 1)) else if b then act.Word m
+          (op.Exchange 1 3) else act.Enter (One (2 * m)))
+          ≡ outcome.Step
       decides false b = refl
       decides true true = refl
       decides true false = refl

@@ -136,8 +136,8 @@ module _ (w : State) (t l m : ℕ) (timed : Bool) (inductive : IsInductive w) (h
           (Took true none_left)
       follows_first = follows_by (x ∷ rest) first
 
-      bare : (location_at (place_at w t) m).carries ≡ None
-      bare = ap (λ (y : Location). y.carries) location_was
+      bare : (location_at (place_at w t) m).has_taken ≡ None
+      bare = ap (λ (y : Location). y.has_taken) location_was
 
       -- another thread
       module _ (other : x.thread ≢ t) where
@@ -145,7 +145,7 @@ module _ (w : State) (t l m : ℕ) (timed : Bool) (inductive : IsInductive w) (h
         not_self = rw (differ x.thread t other) refl
 
         next_beside : (b : Bool) → beside_of (goes_to s true b) ≡ record (beside_of (taking s)) {
-          carries =
+          has_taken =
               Some false;
         }
         next_beside true = refl
@@ -168,9 +168,9 @@ module _ (w : State) (t l m : ℕ) (timed : Bool) (inductive : IsInductive w) (h
             (first_sleeps w m inductive plain x rest first t other (ap (λ (y : Location). y.inside)
             location_was)) bare
             (location_then s true none_left (next_there true none_left) ∙ next_beside none_left
-            ∙ sym (ap (λ (y : Location). record y { carries = Some false }) location_was)
+            ∙ sym (ap (λ (y : Location). record y { has_taken = Some false }) location_was)
             ∙ sym (ap (λ b. record (after_take t b (location_at (place_at w t) m)) {
-              carries =
+              has_taken =
                   Some false;
             }) not_self))
             (taken_then s true none_left (next_there true none_left) ∙ next_taken none_left ∙ sym taken_was
@@ -179,7 +179,7 @@ module _ (w : State) (t l m : ℕ) (timed : Bool) (inductive : IsInductive w) (h
             follows_first.needed (follows_first.role
             ∙ sym (does_then s true none_left (next_there true none_left)))) fits
 
-  -- ---------------------------------------------------------------- it takes itself
+  -- ---------------------------------------------------------------- the waiter takes itself
 
   -- a thread that stands in the line of the mutex was moved there
   moved_so : (s : WaiterFate) → (beside_of (taking s)).stands ≡ Some Main → s ≡ stands.Moved
@@ -216,7 +216,7 @@ module _ (w : State) (t l m : ℕ) (timed : Bool) (inductive : IsInductive w) (h
     own_there false = refl
 
     own_beside : (b : Bool) → beside_of (goes_to (stands.InHand t) true b)
-        ≡ record (after_take t true (beside_of (taking stands.Moved))) { carries = Some false }
+        ≡ record (after_take t true (beside_of (taking stands.Moved))) { has_taken = Some false }
     own_beside true = refl
     own_beside false = refl
 
@@ -240,9 +240,9 @@ module _ (w : State) (t l m : ℕ) (timed : Bool) (inductive : IsInductive w) (h
         own_sleeps (bare stands.Moved is x rest first)
         (location_then stands.Moved is (stands.InHand t) true nobody_left (own_there nobody_left)
         ∙ own_beside nobody_left ∙ sym
-        (ap (λ (y : Location). record (after_take t true y) { carries = Some false })
+        (ap (λ (y : Location). record (after_take t true y) { has_taken = Some false })
         (location_was stands.Moved is))
-        ∙ sym (ap (λ b. record (after_take t b (location_at (place_at w t) m)) { carries = Some false })
+        ∙ sym (ap (λ b. record (after_take t b (location_at (place_at w t) m)) { has_taken = Some false })
         own_member))
         (taken_then stands.Moved is (stands.InHand t) true nobody_left (own_there nobody_left)
         ∙ own_taken nobody_left ∙ sym (taken_beside l m apart (At (waits (taking (stands.InHand t))))

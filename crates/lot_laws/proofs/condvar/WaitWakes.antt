@@ -77,7 +77,7 @@ module _ (w : State) (t l m : ℕ) (timed : Bool) (inductive : IsInductive w) (i
     stays : location_by (row_at_condvar (At (waits (past_release s2)))) ≡ there (waits (leaving any s))
     side : beside_of (past_release s2) ≡ record (beside_of (leaving any s)) {
       inside = None;
-      carries = None;
+      has_taken = None;
       hand = (if is_thread t (taker_of s) then None else hand_of s);
     }
     taken : taken_of (past_release s2) ≡ keep_from t (taken_of (leaving any s))
@@ -166,7 +166,7 @@ module _ (w : State) (t l m : ℕ) (timed : Bool) (inductive : IsInductive w) (i
     },
   )
 
-  -- ---------------------------------------------------------------- it goes out
+  -- ---------------------------------------------------------------- the thread goes out
 
   module _ (any : Bool) (s : WaiterFate) (is : place_at w t ≡ Condvar l (waits (leaving any s))) where
     location_was : location_at (place_at w t) m ≡ beside_of (leaving any s)
@@ -183,14 +183,14 @@ module _ (w : State) (t l m : ℕ) (timed : Bool) (inductive : IsInductive w) (i
     carries_here : CarriesAt m (place_at w t)
     carries_here k ne = ap (λ q. carried_at q k) is ∙ elim (cases_eq k l) [
       | inl e ↦ subst (λ j. carried_at (Condvar l (waits (leaving any s))) j ≡ None) (sym e)
-          (ap (λ (y : Location). y.carries) (location_there l m apart (At (waits (leaving any s))) refl))
-      | inr nl ↦ ap (λ (y : Location). y.carries) (nothing_there l m apart (At (waits (leaving any s))) refl k
+          (ap (λ (y : Location). y.has_taken) (location_there l m apart (At (waits (leaving any s))) refl))
+      | inr nl ↦ ap (λ (y : Location). y.has_taken) (nothing_there l m apart (At (waits (leaving any s))) refl k
           nl ne)
     ]
 
     -- A thread has taken each waiter that it has in hand.
     pub not_given : hand_of s ≡ hand t true → ⊥
-    not_given e = by_any any (ap (λ (y : Location). y.carries) location_was)
+    not_given e = by_any any (ap (λ (y : Location). y.has_taken) location_was)
         (inductive.stands.hands.taken t t m true (ap (λ (y : Location). y.hand) location_was ∙ e))
       where
         by_any : (b : Bool) → carried_at (place_at w t) m ≡ in_hand b false → carried_at (place_at w t) m
@@ -218,13 +218,13 @@ module _ (w : State) (t l m : ℕ) (timed : Bool) (inductive : IsInductive w) (i
     -- how it stands then, but for the threads that it has in hand
     side : location_at p2 m ≡ record (location_at (place_at w t) m) {
       inside = None;
-      carries = None;
+      has_taken = None;
       hand =
           (if is_thread t (taker_of s) then None else hand_of s);
     }
     side = location_then ∙ goes.1.side ∙ sym (ap (λ (y : Location). record y {
       inside = None;
-      carries = None;
+      has_taken = None;
       hand = (if is_thread t (taker_of s) then None else hand_of s);
     }) location_was)
 
@@ -248,7 +248,7 @@ module _ (w : State) (t l m : ℕ) (timed : Bool) (inductive : IsInductive w) (i
     woken u b held = by_hand b held taken_only
       where
         taken_only : Some false ≡ Some b
-        taken_only = sym (ap (λ (y : Location). y.carries) (location_was true s is))
+        taken_only = sym (ap (λ (y : Location). y.has_taken) (location_was true s is))
             ∙ inductive.stands.hands.taken t u m b held
 
         by_hand : (b : Bool) → hand_at (place_at w u) m ≡ hand t b → Some false ≡ Some b
@@ -290,12 +290,12 @@ module _ (w : State) (t l m : ℕ) (timed : Bool) (inductive : IsInductive w) (i
         (subst (FitsItsLock w) told_place fits) section (holds_here w t m inductive (carries_here true s is))
         woken
         (ap (λ (y : Location). y.inside) (location_was true s is)) (ap (λ (y : Location). y.inside)
-        (side true s is)) (ap (λ (y : Location). y.carries) (side true s is))
+        (side true s is)) (ap (λ (y : Location). y.has_taken) (side true s is))
         (ap (λ (y : Location). y.stands) (side true s is)) (ap (λ (y : Location). y.waits)
         (side true s is))
         own_hand (taken_then true s is) (Out ∷ []) tt (follows true s is).needed (role true s is))
 
-  -- ---------------------------------------------------------------- it has nobody in hand
+  -- ---------------------------------------------------------------- nobody is in hand
 
   module _ (s : WaiterFate) (is : place_at w t ≡ Condvar l (waits (leaving false s))) where
     abbrev out_at : Place
@@ -337,7 +337,7 @@ module _ (w : State) (t l m : ℕ) (timed : Bool) (inductive : IsInductive w) (i
     unheld : keep_from t (taken_at (place_at w t) m) ≡ taken_at (place_at w t) m
     unheld = untaken (place_at w t) t m (λ h. let a : carried_at (place_at w t) m ≡ Some false =
         inductive.stands.hands.taken t t m false h in
-        let b : carried_at (place_at w t) m ≡ None = ap (λ (y : Location). y.carries)
+        let b : carried_at (place_at w t) m ≡ None = ap (λ (y : Location). y.has_taken)
         (location_was false s is) in let c : ◌≡◌ {A = Option Bool} None (Some false) = sym b ∙ a in cc)
 
     pub leaves_nobody : FitsNext false s → Kept false s
@@ -347,7 +347,7 @@ module _ (w : State) (t l m : ℕ) (timed : Bool) (inductive : IsInductive w) (i
         (λ fits. goes_out_at w t m inductive is_there sort out_at (beside.alike w t l m timed inductive
         is_there
         apart sort (leaving false s) is (At (waits (past_release s))) out_stays) fits section
-        (ap (λ (y : Location). y.inside) (location_was false s is)) (ap (λ (y : Location). y.carries)
+        (ap (λ (y : Location). y.inside) (location_was false s is)) (ap (λ (y : Location). y.has_taken)
         (location_was false s is)) (Out ∷ []) tt (follows false s is).needed
         ((follows false s is).role ∙ unwoken t (taken_at (place_at w t) m)
         (wait_row m (past_release s)).role unheld

@@ -103,7 +103,7 @@ module _ (w : State) (t l m : ℕ) (timed : Bool) (inductive : IsInductive w) (i
   unwoken (MarkBrought ∷ []) d h = refl
   unwoken ds d h = absurd h
 
-  -- but for the owner nothing of the owners changes
+  -- nothing of the owners changes but the owner
   abbrev KeepsOthers : WaitAt → Type 0
   KeepsOthers at = condvar_owners (waits at) t (word_at w m) (owners_at w m) ≡ with_exclusive (owners_at w m)
       (condvar_owners (waits at) t (word_at w m) (owners_at w m)).exclusive

@@ -44,7 +44,7 @@ by_row t (Some (Of v false)) (Some y) false f = either (v == t) refl
     either false e = refl
 
 module _ (w : State) (t l : ℕ) (inductive : IsInductive w) (own : IsOf l (place_at w t)) (any : Bool)
-    (carries : carried_at (place_at w t) l ≡ in_hand any false) where
+    (has_taken : carried_at (place_at w t) l ≡ in_hand any false) where
   by_any : (c g : Bool) → in_hand c false ≡ Some g → g ≡ false
   by_any true g e = let f : false ≡ g = cc in sym f
   by_any false g e = absurd cc
@@ -58,7 +58,7 @@ module _ (w : State) (t l : ℕ) (inductive : IsInductive w) (own : IsOf l (plac
       (of_carries l (place_at w t) own) k in
       let held_here : hand_at (place_at w u) l ≡ hand t k.handed =
       subst (λ j. hand_at (place_at w u) j ≡ hand t k.handed) here k.hand in
-      held_here ∙ ap (hand t) (by_any any k.handed (sym carries ∙ inductive.stands.hands.taken t u l k.handed
+      held_here ∙ ap (hand t) (by_any any k.handed (sym has_taken ∙ inductive.stands.hands.taken t u l k.handed
       held_here))
 
   -- in a call of one lock
@@ -193,7 +193,7 @@ is_more t (Some h) x e = either (h.by == t) e
 -- ---------------------------------------------------------------- the rights that the lock hands over
 
 module _ (w : State) (t l : ℕ) (inductive : IsInductive w) (own : IsOf l (place_at w t)) (any : Bool)
-    (carries : carried_at (place_at w t) l ≡ in_hand any false) (k : Counted) (count : IsCountOfHand w t k)
+    (has_taken : carried_at (place_at w t) l ≡ in_hand any false) (k : Counted) (count : IsCountOfHand w t k)
   where
     abbrev taken : ℕ → Option Taken
     taken u = taken_at (place_at w u) l
@@ -213,11 +213,11 @@ module _ (w : State) (t l : ℕ) (inductive : IsInductive w) (own : IsOf l (plac
     taken_more : (u : ℕ) (x : Want) → wants_more_in_hand t (held (place_at w u)) ≡ Some x
         → (taken u ≡ Some (record { by = t; want = x })) × (x ≢ Shared)
     taken_more u x e = let m = is_more t (held (place_at w u)) x e
-        in (is_wanted t (taken u) x (sym (same_hand w t l inductive own any carries u) ∙ m.0), m.1)
+        in (is_wanted t (taken u) x (sym (same_hand w t l inductive own any has_taken u) ∙ m.0), m.1)
 
     more_taken : (u : ℕ) (x : Want) → taken u ≡ Some (record { by = t; want = x }) → x ≢ Shared
         → wants_more_in_hand t (held (place_at w u)) ≡ Some x
-    more_taken u x e ne = more_is t (held (place_at w u)) x (same_hand w t l inductive own any carries u
+    more_taken u x e ne = more_is t (held (place_at w u)) x (same_hand w t l inductive own any has_taken u
         ∙ wanted_is t (taken u) x e) ne
 
     succeeds : IsSuccessor (lock_state w l) t (heir_of heir k.successor)
@@ -267,7 +267,7 @@ module _ (w : State) (t l : ℕ) (inductive : IsInductive w) (own : IsOf l (plac
         each j = subst (λ i. shares_handed t (taken i) ≡ (if shares_in_hand t (held (get_or w.places j Idle))
             then 1 else 0)) (let z : j ≡ 0 + j = omega arith in z)
             (shares_of t (taken j) (held (place_at w j))
-            (sym (same_hand w t l inductive own any carries j)) ∙ share_counts t (held (place_at w j)))
+            (sym (same_hand w t l inductive own any has_taken j)) ∙ share_counts t (held (place_at w j)))
 
     pub has_in_hand : HasInHand (lock_state w l) t k heir
     has_in_hand = record { named = named; successor = succeeds; sharers = shares_so }

@@ -13,11 +13,11 @@ use Imports.{Once, Condvar, Semaphore, first_place, in_mutex, in_once, in_rwlock
 use Imports.{mutex_goes}
 use Imports.{next_place, once_goes, rwlock_goes, condvar_goes, in_condvar, in_semaphore, semaphore_goes, State}
 use Imports.{held, place_at, AreCounted, IsCountOfHand, carried_at, nowhere, location}
-use Rattle.core_base.specs.declared.notes.Note as note
+use Rattle.core_base.specs.declared.notes.Note.TheVariants as note
 use Rattle.spec_locks.specs.declared.calls.Access.TheVariants as access
-use Rattle.spec_locks.specs.declared.calls.Call as call
-use Rattle.spec_locks.specs.declared.calls.RwLockCall as rwlock_call
-use Rattle.spec_locks.specs.declared.outcomes.Answer as answer
+use Rattle.spec_locks.specs.declared.calls.Call.TheVariants as call
+use Rattle.spec_locks.specs.declared.calls.RwLockCall.TheVariants as rwlock_call
+use Rattle.spec_locks.specs.declared.outcomes.Answer.TheVariants as answer
 use Rattle.steps_base.specs.declared.acts.Next.TheVariants as next
 use Rattle.steps_base.specs.declared.acts.Reply.TheVariants as reply
 use Rattle.steps_rwlock.specs.declared.places.RwLockAt.TheVariants as at
@@ -114,7 +114,7 @@ pub record HasCounted (l : ℕ) (p : Place) : Type 0 where
   pub unheld : held p ≡ None
   -- a thread that it has in hand it has handed nothing yet
   pub any : Bool
-  pub carries : carried_at p l ≡ in_hand any false
+  pub has_taken : carried_at p l ≡ in_hand any false
 
 has_counted : (l : ℕ) (k : Counted) (a : Admission) (c : RwLockCallPlace) → in_hand_of c ≡ Some k
     → HasCounted l (RwLock l a c)
@@ -122,22 +122,22 @@ has_counted l k a (HandOver x b (handing.Store m)) e = record {
   of = refl;
   unheld = refl;
   any = any_taken m;
-  carries = ap (λ y. (if y then location (RwLock l a (HandOver x b (handing.Store m))) else nowhere).carries)
+  has_taken = ap (λ y. (if y then location (RwLock l a (HandOver x b (handing.Store m))) else nowhere).has_taken)
       (same l);
 }
 has_counted l k a (HandOver x b (handing.Look m)) e = record {
   of = refl;
   unheld = refl;
   any = any_taken m;
-  carries = ap (λ y. (if y then location (RwLock l a (HandOver x b (handing.Look m))) else nowhere).carries)
+  has_taken = ap (λ y. (if y then location (RwLock l a (HandOver x b (handing.Look m))) else nowhere).has_taken)
       (same l);
 }
 has_counted l k a (HandOver x b (handing.Exchange m seen)) e = record {
   of = refl;
   unheld = refl;
   any = any_taken m;
-  carries = ap (λ y. (if y then location (RwLock l a (HandOver x b (handing.Exchange m seen)))
-      else nowhere).carries) (same l);
+  has_taken = ap (λ y. (if y then location (RwLock l a (HandOver x b (handing.Exchange m seen)))
+      else nowhere).has_taken) (same l);
 }
 has_counted l k a (HandOver x b to) e = absurd cc
 has_counted l k a c e = absurd cc
@@ -168,7 +168,7 @@ given_bare b p (reply.HandedBy u alone) c e = by_place p.purpose p.at e
         in subst (λ (d : RwLockCallPlace). in_hand_of d ≡ None) f refl
     by_place (purpose.Enter x how) (at.Park to) e = absurd cc
     by_place q to e = absurd cc
-given_bare b p (reply.Woken note.TheVariants.HandOff) c e = by_place p.purpose p.at e
+given_bare b p (reply.Woken note.HandOff) c e = by_place p.purpose p.at e
   where
     by_place : (q : RwLockPurpose) (to : RwLockAt) → woken_with b q to ≡ Some c → in_hand_of c ≡ None
     by_place (purpose.Enter x how) (at.Park parking.Asleep) e = let f : handed_woken x how b false ≡ c = cc
@@ -198,7 +198,7 @@ bump_bare q (next.End answer) = by_purpose q
 
 handed_bare : (x : Access) (how : Patience) (b : Bool) (to : HandedAt) (r : Reply)
     → counted_next (handed_next x how b to r) ≡ None
-handed_bare x how b (handed.Asleep u alone) (reply.Woken note.TheVariants.HandOff) = woken_bare x how b alone
+handed_bare x how b (handed.Asleep u alone) (reply.Woken note.HandOff) = woken_bare x how b alone
 handed_bare x how b (handed.Asleep u alone) (reply.Woken n) = refl
 handed_bare x how b (handed.Asleep u alone) r = refl
 handed_bare x how b handed.Accept reply.Done = refl
@@ -213,7 +213,7 @@ glance_bare a x (reply.Value seen) = either (gives_way a x seen)
     by_access access.Upgradable = refl
     by_access access.Exclusive = refl
 
-    either : (b : Bool) → counted_next (if b then next.At (gives_up_at x) else next.End answer.TheVariants.Ok)
+    either : (b : Bool) → counted_next (if b then next.At (gives_up_at x) else next.End answer.Ok)
         ≡ None
     either true = by_access x
     either false = refl
@@ -271,15 +271,15 @@ release_bare access.Upgradable = refl
 release_bare access.Exclusive = refl
 
 first_bare : (c : RwLockCall) → in_hand_of (call_first c) ≡ None
-first_bare (rwlock_call.TheVariants.ReleaseFair x) = release_bare x
+first_bare (rwlock_call.ReleaseFair x) = release_bare x
 first_bare c = refl
 
 pub begins_bare : (l : ℕ) (kind : Kind) (c : Call) → counted_on (first_place kind c) l ≡ None
-begins_bare l kind (call.TheVariants.Mutex j c) = refl
-begins_bare l kind (call.TheVariants.Once j c) = refl
-begins_bare l kind (call.TheVariants.Semaphore j c) = refl
-begins_bare l kind (call.TheVariants.Condvar j c) = refl
-begins_bare l kind (call.TheVariants.RwLock j c) = ap (λ o. if j == l then o else None) (first_bare c)
+begins_bare l kind (call.Mutex j c) = refl
+begins_bare l kind (call.Once j c) = refl
+begins_bare l kind (call.Semaphore j c) = refl
+begins_bare l kind (call.Condvar j c) = refl
+begins_bare l kind (call.RwLock j c) = ap (λ o. if j == l then o else None) (first_bare c)
     ∙ nothing (j == l)
 
 -- a thread that looks at the word once more hands nothing over

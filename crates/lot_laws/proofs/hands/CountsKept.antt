@@ -22,7 +22,7 @@ use Rattle.lot_laws.proofs.calls.Closings.{closing, closing_there, is_after}
 use Rattle.lot_laws.proofs.calls.OwnPlace.{gone, gone_place}
 use Rattle.core_base.specs.declared.ops.Op.TheVariants as operation
 use Rattle.spec_locks.specs.declared.calls.Access.TheVariants as access
-use Rattle.spec_locks.specs.declared.calls.Turn as turn
+use Rattle.spec_locks.specs.declared.calls.Turn.TheVariants as turn
 use Rattle.steps_base.specs.declared.acts.Act.TheVariants as act
 use Rattle.steps_base.specs.declared.acts.Next.TheVariants as next
 use Rattle.steps_rwlock_fair.specs.declared.hand_over.Taken.{Taken as Counted}
@@ -65,7 +65,7 @@ module _ (w v : State) (a : ℕ) (inductive : IsInductive w) (afterwards : IsInd
     -- a thread that it has in hand, the abstract lock says, and no case of another changes that
     same_wanted : t ≢ a → (x : Turn) (o : Outcome) → Turned (locks_of w) a x o (locks_of v) → (u : ℕ)
         → wanted_of t (held (place_at v u)) ≡ wanted_of t (held (place_at w u))
-    same_wanted ne x o turned u = same_hand v t l afterwards then_so.of then_so.any then_so.carries u
+    same_wanted ne x o turned u = same_hand v t l afterwards then_so.of then_so.any then_so.has_taken u
         ∙ turned_so (λ (s z : LockState). wanted_of t (z.taken u) ≡ wanted_of t (s.taken u)) (locks_of w)
         (locks_of v) a l (λ c m every owned number may. moves_no_readers (locks_of w) a c m every owned
         number l readers may (λ z. wanted_of t (z.taken u) ≡ wanted_of t ((lock_state w l).taken u)) refl)
@@ -73,7 +73,7 @@ module _ (w v : State) (a : ℕ) (inductive : IsInductive w) (afterwards : IsInd
         (λ c needs. others_hold (rules_in w l) (lock_state w l) t a u (inductive.sites.site l).state ne c
         needs)
         x o turned
-        ∙ sym (same_hand w t l inductive before.of before.any before.carries u)
+        ∙ sym (same_hand w t l inductive before.of before.any before.has_taken u)
 
     pub another_counts : t ≢ a → (x : Turn) (o : Outcome) → Turned (locks_of w) a x o (locks_of v)
         → IsCountOfHand v t k
@@ -334,30 +334,30 @@ module _ (w : State) (t : ℕ) (inductive : IsInductive w) (counted : AreCounted
         → counted_on (place_at (state_after_turn w t x) t) l ≡ Some k → IsCountOfHand (state_after_turn w t x)
         t
         k
-    turned_counts (turn.TheVariants.Begin c) can afterwards o turned l k e =
+    turned_counts (turn.Begin c) can afterwards o turned l k e =
         absurd (none_is k _ (ap (λ p. counted_on p l) (get_or-set_same w.places t
         (first_place (kind_at w (lock_in c)) c) Idle there) ∙ begins_bare l (kind_at w (lock_in c)) c) e)
-    turned_counts turn.TheVariants.Go can afterwards o turned l k e = elim (single_or_two (place_at w t)) [
+    turned_counts turn.Go can afterwards o turned l k e = elim (single_or_two (place_at w t)) [
       | inl single ↦ (let same = gone w t single in
           subst (λ (v : State). IsCountOfHand v t k) (sym same) (going_counts w t inductive counted there
-          turn.TheVariants.Go o (place_at w t) refl
+          turn.Go o (place_at w t) refl
           (subst IsInductive same afterwards)
-          (subst (λ (v : State). Turned (locks_of w) t turn.TheVariants.Go o (locks_of v)) same turned) l k
+          (subst (λ (v : State). Turned (locks_of w) t turn.Go o (locks_of v)) same turned) l k
           (ap (λ p. counted_on p l) (sym (gone_place w t single there)) ∙ e)))
       | inr two ↦ absurd (none_is k _ (two_bare w t inductive there two l) e)
     ]
-    turned_counts turn.TheVariants.Spin can afterwards o turned l k e = spun_counts
+    turned_counts turn.Spin can afterwards o turned l k e = spun_counts
         (respins_from (place_at w t))
         refl
         l
         k e
-    turned_counts turn.TheVariants.Late can afterwards o turned l k e = late_counts (late_key (place_at w t))
+    turned_counts turn.Late can afterwards o turned l k e = late_counts (late_key (place_at w t))
         refl
         l
         k e
-    turned_counts turn.TheVariants.Ok can afterwards o turned l k e =
+    turned_counts turn.Ok can afterwards o turned l k e =
         absurd (none_is k _ (closed_bare true (closes_one w t true can) l) e)
-    turned_counts turn.TheVariants.Err can afterwards o turned l k e =
+    turned_counts turn.Err can afterwards o turned l k e =
         absurd (none_is k _ (closed_bare false (closes_one w t false can) l) e)
 
 -- ---------------------------------------------------------------- every step

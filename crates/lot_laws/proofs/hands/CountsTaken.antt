@@ -70,7 +70,7 @@ one_in_hand v t l inductive has one u i x y e f = let a = is_more t (held (place
     taken_so : (j : ℕ) (z : Want) → wanted_of t (held (place_at v j)) ≡ Some z → (lock_state v l).taken j
         ≡ Some (record { by = t; want = z })
     taken_so j z g = is_wanted t ((lock_state v l).taken j) z
-        (sym (same_hand v t l inductive has.of has.any has.carries j) ∙ g)
+        (sym (same_hand v t l inductive has.of has.any has.has_taken j) ∙ g)
 
 -- ---------------------------------------------------------------- the take
 
@@ -137,7 +137,7 @@ module _ (w : State) (t l : ℕ) (a : Admission) (x : Access) (b : Bool) (induct
   nobody_before : HasTakenNobody (lock_state w l) t
   nobody_before = in_no_hand w inductive t l (λ h. let none : carried_at (place_at w t) l ≡ None =
       ap (λ p. carried_at p l) is ∙ ap (λ y. (if y then location (RwLock l a (HandOver x b handing.Take))
-      else nowhere).carries) (same l) in
+      else nowhere).has_taken) (same l) in
       let f : ◌≡◌ {A = Option Bool} None (Some false) = sym none ∙ h in cc)
 
   -- a lock that is shared

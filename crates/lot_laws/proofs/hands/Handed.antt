@@ -18,7 +18,7 @@ abbrev pub CarriesAt : ℕ → Place → Type 0
 CarriesAt l p = (k : ℕ) → k ≢ l → carried_at p k ≡ None
 
 pub of_carries : (l : ℕ) (p : Place) → IsOf l p → CarriesAt l p
-of_carries l p of k ne = ap (λ (y : Location). y.carries) (location_elsewhere l k p of ne)
+of_carries l p of k ne = ap (λ (y : Location). y.has_taken) (location_elsewhere l k p of ne)
 
 -- each thread that is in the hand of t is so there
 pub in_hand_here : {one : ℕ → Type 0} (p : ℕ → Place) → Hands one p → (t l u : ℕ) → CarriesAt l (p t)

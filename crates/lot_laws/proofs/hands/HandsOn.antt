@@ -185,9 +185,9 @@ module _ (w : State) (t l : ℕ) (a : Admission) (c : RwLockCallPlace) (inductiv
   pub g : HandsOver (call_move a c) op
   g = (hand_overs_move l l a c op k fits.1 is_k e).1
 
-  pub carries : carried_at (place_at w t) l ≡ in_hand g.any false
-  carries = ap (λ (y : Location). y.carries) (location_here l (place_at w t) of)
-      ∙ ap (λ (y : Location). y.carries) (ap location_by row ∙ g.was)
+  pub has_taken : carried_at (place_at w t) l ≡ in_hand g.any false
+  has_taken = ap (λ (y : Location). y.has_taken) (location_here l (place_at w t) of)
+      ∙ ap (λ (y : Location). y.has_taken) (ap location_by row ∙ g.was)
 
   pub bare : (profile (place_at w t)).hand ≡ None
   bare = ap (λ (y : Location). y.hand) (ap location_by row ∙ g.was)
@@ -201,7 +201,7 @@ module _ (w : State) (t l : ℕ) (a : Admission) (c : RwLockCallPlace) (inductiv
     free = free_of (place_at w t) l (of_single l (place_at w t) of) bare;
     taken = k;
     is = is_k;
-    in_hand = has_in_hand w t l inductive of g.any carries k count;
+    in_hand = has_in_hand w t l inductive of g.any has_taken k count;
   }
 
   limits : LimitHasRoom (length w.places) (rules_in w l) × HasLimit (rules_in w l) here.lock
@@ -293,7 +293,7 @@ module _ (w : State) (t l : ℕ) (a : Admission) (c : RwLockCallPlace) (inductiv
     given u b held = by_place (place_at w u) refl held
       where
         fresh : b ≡ false
-        fresh = by_any g.any (sym carries ∙ inductive.stands.hands.taken t u l b held)
+        fresh = by_any g.any (sym has_taken ∙ inductive.stands.hands.taken t u l b held)
           where
             by_any : (y : Bool) → in_hand y false ≡ Some b → b ≡ false
             by_any true f = let z : false ≡ b = cc in sym z

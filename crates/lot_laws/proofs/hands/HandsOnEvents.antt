@@ -25,7 +25,7 @@ use Rattle.lot_laws.proofs.hands.Rights.{given_right}
 use Rattle.lot_laws.proofs.hands.Counted.{hand_there}
 use Rattle.lot_laws.proofs.hands.HandEvents.{IsHandedCall, claims_are, hands_many}
 use Rattle.lot_laws.proofs.hands.HandsStay.{alone_is, claims_given}
-use Rattle.lot_laws.proofs.hands.HandsOn.{bare, carries, g, given, hands_goes, hands_tell, more_right, of}
+use Rattle.lot_laws.proofs.hands.HandsOn.{bare, has_taken, g, given, hands_goes, hands_tell, more_right, of}
 use Rattle.lot_laws.proofs.hands.HandsOn.{row, unclaimed, whom}
 use Rattle.lot_laws.proofs.calls.LockEvents.{Befalls}
 use Rattle.lot_laws.proofs.calls.OtherCalls.{taken_by_hand}
@@ -78,20 +78,20 @@ module _ (w : State) (t l : ℕ) (a : Admission) (c : RwLockCallPlace) (inductiv
   abbrev pub successor : Option Queued
   successor = heir_of heir (g w t l a c inductive shape there lt is k is_k count op e).successor
 
-  carried_now : carried_at (place_at w t) l ≡ (call_profile a c).carries
-  carried_now = ap (λ (y : Location). y.carries) (location_here l (place_at w t)
-      (of w t l a c inductive shape there lt is k is_k count op e)) ∙ ap (λ (y : Profile). y.carries)
+  carried_now : carried_at (place_at w t) l ≡ (call_profile a c).has_taken
+  carried_now = ap (λ (y : Location). y.has_taken) (location_here l (place_at w t)
+      (of w t l a c inductive shape there lt is k is_k count op e)) ∙ ap (λ (y : Profile). y.has_taken)
       (row w t l a c inductive shape there lt is k is_k count op e)
 
   abbrev event : Event
-  event = event_by l (case_of (call_profile a c).carries done)
+  event = event_by l (case_of (call_profile a c).has_taken done)
 
   one_case : event ≡ AtLock l (HandOff right successor)
-  one_case = ap (λ ds. event_by l (case_of (call_profile a c).carries ds))
+  one_case = ap (λ ds. event_by l (case_of (call_profile a c).has_taken ds))
       ((g w t l a c inductive shape there lt is k is_k count op e).deeds heir (word_at w l) takes)
 
   pub hands_happen : IsEvent w afterwards t event
-  hands_happen = happens w afterwards t l (call_profile a c).carries done claims inductive went
+  hands_happen = happens w afterwards t l (call_profile a c).has_taken done claims inductive went
       (claims_are t alone (λ u. taken_at (place_at w u) l) (length w.places))
       (hands_tell w t l a c inductive shape there lt is k is_k count op e).one
       (λ none. in_no_hand w inductive t l (λ h. none (sym carried_now ∙ h)))
@@ -110,7 +110,7 @@ module _ (w : State) (t l : ℕ) (a : Admission) (c : RwLockCallPlace) (inductiv
       same_test true f = f ∙ sym (taken_by_hand w (place_at w u) t l (inductive.stands.calls u)
           (hand_there w t l inductive (of w t l a c inductive shape there lt is k is_k count op e)
           (g w t l a c inductive shape there lt is k is_k count op e).any
-          (carries w t l a c inductive shape there lt is k is_k count op e) u f))
+          (has_taken w t l a c inductive shape there lt is k is_k count op e) u f))
       same_test false f = f ∙ sym (unless_held w inductive t l u
           (λ h. let z : is_thread t (taker (place_at w u))
           ≡ true = held_tells (place_at w u) t l false h in cc))

@@ -21,7 +21,7 @@ use Imports.{owners_of_successor, owners_handed_over, owners_with_pending, given
 use Imports.{location, location_at, nowhere, role_on, locations_of, ActsNeeded, LimitHasRoom, IsInductive, Goes}
 use Imports.{Hands, TakesOne, FitsItsLock, after_acts, rules_in, carried_at, hand_at}
 use Rattle.core_base.specs.declared.wants.Want.TheVariants.{Wait}
-use Rattle.spec_locks.specs.declared.kinds.Kind as kind
+use Rattle.spec_locks.specs.declared.kinds.Kind.TheVariants as kind
 use Rattle.steps_base.specs.Owners.{lock_seen}
 use Rattle.spec_locks.specs.Locks.{Mutex, Normal, Semaphore}
 use Rattle.spec_locks.specs.Locks.{Once}
@@ -42,7 +42,7 @@ use Rattle.lot_laws.proofs.sites.StandsKept.{sections_same, lines_same, waits_sa
 use Rattle.lot_laws.proofs.sites.StandsMoved.{stands_by}
 use Rattle.lot_laws.proofs.sites.ToldAt.{HoldsHere, IsToldAt, SameHands, HeldHere, same_hands, has, told}
 use Rattle.lot_laws.proofs.sites.ToldAt.{places_then, held_here, told_on, told_off, not_held, in_hand}
-use Rattle.lot_laws.proofs.sites.ToldAt.{carries, alike, calls_then, all_parts, places_are}
+use Rattle.lot_laws.proofs.sites.ToldAt.{has_taken, alike, calls_then, all_parts, places_are}
 use Rattle.lot_laws.proofs.mutex.Waiters.{holds_here}
 use Rattle.lot_laws.proofs.sites.StandsKept.{AlikeBeside, own_alike}
 use Rattle.lot_laws.proofs.hands.Handed.{of_carries}
@@ -275,7 +275,7 @@ given_is t i taken (p ∷ ps) (n ∷ ns) each e few =
     (omega arith) in
     λ j. here j ∷ more j
 
--- ---------------------------------------------------------------- those in hand
+-- ---------------------------------------------------------------- threads in hand
 
 -- a thread that is in the hand of t, by its place, is taken by it
 taken_by : (q : Place) (l : ℕ) {t : ℕ} (x : Want) → IsOf l q → (location q).hand ≡ hand t false
@@ -349,7 +349,7 @@ module _ (w : State) (t l : ℕ) (inductive : IsInductive w) (own : IsOf l (plac
   site : IsSite r here
   site = site_by w t l inductive own there r rules p2 of fits
 
-  -- they stand as the machine tells them
+  -- waiters stand as the machine tells them
   pub beside : AlikeBeside l (place_at w t) p2
   beside = own_alike l (place_at w t) p2 own of
 
@@ -656,8 +656,8 @@ module _ (w : State) (t l : ℕ) (inductive : IsInductive w) (own : IsOf l (plac
       module _ (any : Bool) (inside : (location p2).inside ≡ (location (place_at w t)).inside)
           (stands : (location p2).stands ≡ (location (place_at w t)).stands)
           (waits : (location p2).waits ≡ (location (place_at w t)).waits)
-          (carried : (location (place_at w t)).carries ≡ in_hand_if any false)
-          (carries_now : (location p2).carries ≡ in_hand_if any true) where
+          (carried : (location (place_at w t)).has_taken ≡ in_hand_if any false)
+          (carries_now : (location p2).has_taken ≡ in_hand_if any true) where
         places : place_at v ≡ places_after
         places = places_are w t l inductive p2 same_there fits in_hands (hand_over_told w t l) (hand t true)
             all_told (state_after_hand_over w t p l op) refl there
@@ -674,13 +674,13 @@ module _ (w : State) (t l : ℕ) (inductive : IsInductive w) (own : IsOf l (plac
           filled = filled_at w l || fills (rules_in w l) (apply op (word_at w l));
         }
 
-        same_lock : get_or (set w.locks l lock_here) l (unlocked kind.TheVariants.Mutex) ≡ lock_here
-        same_lock = get_or-set_same w.locks l lock_here (unlocked kind.TheVariants.Mutex) lt
+        same_lock : get_or (set w.locks l lock_here) l (unlocked kind.Mutex) ≡ lock_here
+        same_lock = get_or-set_same w.locks l lock_here (unlocked kind.Mutex) lt
 
         other_lock : (k : ℕ) → k ≢ l
-            → get_or (set w.locks l lock_here) k (unlocked kind.TheVariants.Mutex)
-            ≡ get_or w.locks k (unlocked kind.TheVariants.Mutex)
-        other_lock k ne = get_or-set_other w.locks l k lock_here (unlocked kind.TheVariants.Mutex) ne
+            → get_or (set w.locks l lock_here) k (unlocked kind.Mutex)
+            ≡ get_or w.locks k (unlocked kind.Mutex)
+        other_lock k ne = get_or-set_other w.locks l k lock_here (unlocked kind.Mutex) ne
 
         moves : Moves w v l parts_then places_after
         moves = record {
@@ -727,10 +727,10 @@ module _ (w : State) (t l : ℕ) (inductive : IsInductive w) (own : IsOf l (plac
             (subst (λ n. n ≤ r.limit) (sym (inductive.numbers.threads l)) room.1))
 
         held_before : carried_at (place_at w t) l ≡ in_hand_if any false
-        held_before = ap (λ (y : Location). y.carries) (location_here l (place_at w t) own) ∙ carried
+        held_before = ap (λ (y : Location). y.has_taken) (location_here l (place_at w t) own) ∙ carried
 
         -- the thread has somebody in hand after it exactly where it had before
-        some_held : (b : Bool) → (location p2).carries ≡ Some b → (b ≡ true) × ((u : ℕ) × (is_told u ≡ true))
+        some_held : (b : Bool) → (location p2).has_taken ≡ Some b → (b ≡ true) × ((u : ℕ) × (is_told u ≡ true))
         some_held b e = by_any any refl (sym carries_now ∙ e)
           where
             by_any : (a : Bool) → any ≡ a → in_hand_if a true ≡ Some b → (b ≡ true)
@@ -743,7 +743,7 @@ module _ (w : State) (t l : ℕ) (inductive : IsInductive w) (own : IsOf l (plac
             )
             by_any false f g = absurd cc
 
-        full_hand : (u : ℕ) → is_told u ≡ true → (location p2).carries ≡ Some true
+        full_hand : (u : ℕ) → is_told u ≡ true → (location p2).has_taken ≡ Some true
         full_hand u h = carries_now ∙ by_any any refl
           where
             held_so : carried_at (place_at w t) l ≡ Some (at_hand u h).handed
@@ -757,14 +757,14 @@ module _ (w : State) (t l : ℕ) (inductive : IsInductive w) (own : IsOf l (plac
 
         hands_now : Hands (TakesOne w) places_after
         hands_now = hands_given (TakesOne w) (locations_of (place_at w)) (locations_of places_after)
-            inductive.stands.hands t l is_told (location p2).carries
+            inductive.stands.hands t l is_told (location p2).has_taken
             (in_hand w t l inductive p2 same_there fits in_hands (hand_over_told w t l) (hand t true) all_told
             (ap (λ (y : Location). y.hand) is_here ∙ unheld
             ∙ sym (ap (λ c. if c then hand t true else (location_at (place_at w t) l).hand) not_told
             ∙ ap (λ (y : Location). y.hand) was_here ∙ free)))
-            (λ i k. carries w t l inductive p2 same_there fits in_hands (hand_over_told w t l) (hand t true)
+            (λ i k. has_taken w t l inductive p2 same_there fits in_hands (hand_over_told w t l) (hand t true)
             all_told i k ∙ ap (λ c. if (i == t) && (k == l) then c else carried_at (place_at w i) k)
-            (ap (λ (y : Location). y.carries) is_here))
+            (ap (λ (y : Location). y.has_taken) is_here))
             (λ u h. ((at_hand u h).handed, (at_hand u h).hand)) (λ u b h. held_tells (place_at w u) t l b h)
             some_held full_hand
 

@@ -53,7 +53,7 @@ module _ (w : State) (t l : ℕ) (inductive : IsInductive w) (there : t < length
   abbrev pub claims : List deeds.Act
   claims = claims_given t (unshared_then w t l) (λ u. taken_at (place_at w u) l) (length w.places)
 
-  location_is : location (place_at w t) ≡ record (inside_of Main) { carries = in_hand g.any false }
+  location_is : location (place_at w t) ≡ record (inside_of Main) { has_taken = in_hand g.any false }
   location_is = ap location_by same_row ∙ g.was
 
   free : (location (place_at w t)).hand ≡ None
@@ -72,7 +72,7 @@ module _ (w : State) (t l : ℕ) (inductive : IsInductive w) (there : t < length
     deeds_are = g.deeds whom seen takes ∙ ap (λ q. Case (HandOff g.right q) ∷ bit_left g.none_left ∷ [])
         (ap (heir_of whom) knows ∙ heirs_same (successor_from t 0 w.places))
 
-    there_is : location p2 ≡ record (inside_of Main) { carries = in_hand g.any true }
+    there_is : location p2 ≡ record (inside_of Main) { has_taken = in_hand g.any true }
     there_is = ap location_by f.row ∙ g.goes seen takes
 
     pub hands_over : lock_seen (shares_at w l) (owners_after p t seen (owners_at w l)) (queue_at w (2 * l))
@@ -90,7 +90,7 @@ module _ (w : State) (t l : ℕ) (inductive : IsInductive w) (there : t < length
         (ap (λ (y : Location). y.inside) there_is ∙ sym (ap (λ (y : Location). y.inside) location_is))
         (ap (λ (y : Location). y.stands) there_is ∙ sym (ap (λ (y : Location). y.stands) location_is))
         (ap (λ (y : Location). y.waits) there_is ∙ sym (ap (λ (y : Location). y.waits) location_is))
-        (ap (λ (y : Location). y.carries) location_is) (ap (λ (y : Location). y.carries) there_is)))
+        (ap (λ (y : Location). y.has_taken) location_is) (ap (λ (y : Location). y.has_taken) there_is)))
       where
         law : HandsLawful w t l inductive own there lt p p2 f.of f.fits op r rules readers given free g.right
             g.none_left
@@ -129,7 +129,7 @@ module _ (w : State) (t l : ℕ) (inductive : IsInductive w) (there : t < length
         ∙ sym (free_of p2 l (of_single l p2 f.of) (ap (λ (y : Location). y.hand) same_location ∙ free)))
         same_location))
 
--- ---------------------------------------------------------------- they are told so
+-- ---------------------------------------------------------------- threads are told so
 
 module _ (w : State) (t l : ℕ) (inductive : IsInductive w) (there : t < length w.places)
     (own : IsOf l (place_at w t)) (r : Rules)
@@ -139,7 +139,7 @@ module _ (w : State) (t l : ℕ) (inductive : IsInductive w) (there : t < length
   now = lock_by w l r
 
   module _ (wakes : Wakes) (g : TellsHanded x hears wakes) where
-    stands_so : location (place_at w t) ≡ record (inside_of Main) { carries = in_hand g.any true }
+    stands_so : location (place_at w t) ≡ record (inside_of Main) { has_taken = in_hand g.any true }
     stands_so = ap location_by same_row ∙ g.was
 
     bare : (location (place_at w t)).hand ≡ None
@@ -170,11 +170,11 @@ module _ (w : State) (t l : ℕ) (inductive : IsInductive w) (there : t < length
             (acts t (x.deeds None Done))
         either false e = goes_out_alone w t l inductive there own r rules x same_row hears Main p2 line
             g.deeds
-            (ap (λ (y : Location). y.inside) g.was) (ap (λ (y : Location). y.carries) g.was
+            (ap (λ (y : Location). y.inside) g.was) (ap (λ (y : Location). y.has_taken) g.was
             ∙ ap (λ b. in_hand b true) e) (ap (λ (y : Location). y.hand) g.was)
-            (g.goes ∙ sym (ap (λ (y : Location). record y { inside = None; carries = None }) g.was)) f
+            (g.goes ∙ sym (ap (λ (y : Location). record y { inside = None; has_taken = None }) g.was)) f
         either true e = wake_goes w t l inductive own there p2 f.of f.fits HandOffNote woken bare
-            (ap (λ (y : Location). y.carries) goes_nowhere) (ap (λ (y : Location). y.hand) goes_nowhere)
+            (ap (λ (y : Location). y.has_taken) goes_nowhere) (ap (λ (y : Location). y.hand) goes_nowhere)
             Main line (ap (λ (y : Location). y.inside) stands_so) (ap (λ (y : Location). y.stands)
             goes_nowhere ∙ sym (ap (λ (y : Location). y.stands) stands_so))
             (ap (λ (y : Location). y.waits) goes_nowhere ∙ sym (ap (λ (y : Location). y.waits) stands_so))

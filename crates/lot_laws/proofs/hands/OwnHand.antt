@@ -8,7 +8,7 @@ use Rattle.lot_laws.proofs.machine.AtPlaces.{unless_held}
 use Rattle.lot_laws.proofs.machine.PlaceTest.{call_facts, mutex_row_facts, once_facts, semaphore_facts}
 use Rattle.lot_laws.proofs.machine.Parts.{IsSingle, free_of, single_location}
 
-bare : (p : Place) → IsSingle p → ((profile p).hand ≡ None) ⊎ ((profile p).carries ≡ None)
+bare : (p : Place) → IsSingle p → ((profile p).hand ≡ None) ⊎ ((profile p).has_taken ≡ None)
 bare Idle single = inl refl
 bare (Mutex l at) single = (mutex_row_facts l at).bare
 bare (RwLock l a c) single = (call_facts l a c).bare
@@ -17,11 +17,11 @@ bare (Semaphore l at) single = (semaphore_facts l at).bare
 bare (Condvar l at) single = absurd single
 
 module _ (w : State) (inductive : IsInductive w) (t l : ℕ) (single : IsSingle (place_at w t)) where
-  nobody : (profile (place_at w t)).carries ≡ None → carried_at (place_at w t) l ≡ None
-  nobody none = ap (λ (x : Location). x.carries) (single_location (place_at w t) l single)
+  nobody : (profile (place_at w t)).has_taken ≡ None → carried_at (place_at w t) l ≡ None
+  nobody none = ap (λ (x : Location). x.has_taken) (single_location (place_at w t) l single)
       ∙ either (calls (place_at w t) l)
     where
-      either : (b : Bool) → (if b then location (place_at w t) else nowhere).carries ≡ None
+      either : (b : Bool) → (if b then location (place_at w t) else nowhere).has_taken ≡ None
       either true = none
       either false = refl
 

@@ -30,9 +30,9 @@ module _ (w : State) (inductive : IsInductive w) where
   coded_for t l at is = coded l (rules_for t l at is)
 
   -- a thread that has nobody in hand by its place
-  pub taken_nobody : (t l : ℕ) → (role_on (place_at w t) l).carries ≡ false
+  pub taken_nobody : (t l : ℕ) → (role_on (place_at w t) l).has_taken ≡ false
       → HasTakenNobody (lock_state w l) t
-  taken_nobody t l none u x h = let some : (role_on (place_at w t) l).carries ≡ true =
+  taken_nobody t l none u x h = let some : (role_on (place_at w t) l).has_taken ≡ true =
       (inductive.sites.site l).carried u (record { by = t; want = x }) h in cc
 
   module _ (t l : ℕ) where

@@ -5,7 +5,7 @@ use Imports.{ℕ, Bool, true, false, Option, Some, None, if◌then◌else◌, �
 use Imports.{One, Turn, Step, Act, Reply, Place, Idle, act_of, late_key, respins_from, next_place, State, after}
 use Imports.{closed_place, is_possible, place_at, put, state_after_act, state_after_go, state_after_going}
 use Imports.{state_after_late_on, state_after_look, state_after_turn, state_with_sections, acted_keeps}
-use Rattle.spec_locks.specs.declared.calls.Turn as turn
+use Rattle.spec_locks.specs.declared.calls.Turn.TheVariants as turn
 use Rattle.lot_laws.proofs.promises.RowPromises.{Befalls}
 
 module _ {A : Type 0} (g : Place → A) (kept : (p : Place) (r : Reply) → Befalls r → g (next_place p r) ≡ g p)
@@ -39,12 +39,12 @@ module _ {A : Type 0} (g : Place → A) (kept : (p : Place) (r : Reply) → Befa
 
     turned_keeps : (w : State) (t u : ℕ) (x : Turn) → u ≢ t → g (place_at (state_after_turn w t x) u)
         ≡ g (place_at w u)
-    turned_keeps w t u (turn.TheVariants.Begin c) ne = put_keeps w t u _ ne
-    turned_keeps w t u turn.TheVariants.Go ne = went_keeps w t u (place_at w t) ne
-    turned_keeps w t u turn.TheVariants.Spin ne = spun_keeps w t u (respins_from (place_at w t)) ne
-    turned_keeps w t u turn.TheVariants.Late ne = late_keeps w t u (late_key (place_at w t)) ne
-    turned_keeps w t u turn.TheVariants.Ok ne = put_went_keeps w t u (closed_place w t true) ne
-    turned_keeps w t u turn.TheVariants.Err ne = put_went_keeps w t u (closed_place w t false) ne
+    turned_keeps w t u (turn.Begin c) ne = put_keeps w t u _ ne
+    turned_keeps w t u turn.Go ne = went_keeps w t u (place_at w t) ne
+    turned_keeps w t u turn.Spin ne = spun_keeps w t u (respins_from (place_at w t)) ne
+    turned_keeps w t u turn.Late ne = late_keeps w t u (late_key (place_at w t)) ne
+    turned_keeps w t u turn.Ok ne = put_went_keeps w t u (closed_place w t true) ne
+    turned_keeps w t u turn.Err ne = put_went_keeps w t u (closed_place w t false) ne
 
     -- for every act of another thread
     pub others_keep_it : (w : State) (s : Step) (u : ℕ) → u ≢ s.thread → g (place_at (after w s) u)

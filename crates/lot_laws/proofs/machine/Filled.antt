@@ -9,11 +9,11 @@ use Imports.{state_after_hand_over_by, state_with_sections, queues_with_last, qu
 use Imports.{state_after_taking, state_after_wake, state_after_act, state_after_look, state_after_late_on}
 use Imports.{state_after_turn, closed_place, is_possible, after, locks_of, lock_state, IsWorld, rules_in}
 use Imports.{site_of}
-use Rattle.spec_locks.specs.declared.kinds.Kind as kind
-use Rattle.spec_locks.specs.declared.calls.Turn as turn
+use Rattle.spec_locks.specs.declared.kinds.Kind.TheVariants as kind
+use Rattle.spec_locks.specs.declared.calls.Turn.TheVariants as turn
 use Rattle.steps_base.specs.declared.acts.Act.TheVariants as act
-use Rattle.steps_base.specs.declared.acts.Wakes as wakes
-use Rattle.steps_base.specs.declared.acts.TakeWhich as whom
+use Rattle.steps_base.specs.declared.acts.Wakes.TheVariants as wakes
+use Rattle.steps_base.specs.declared.acts.TakeWhich.TheVariants as whom
 use Rattle.lot_machine.specs.declared.locks.Lock.{Lock}
 use Rattle.lot_laws.proofs.sites.OneStep.{fills_by, noted}
 
@@ -35,11 +35,11 @@ set_marks (x ∷ xs) (suc i) y d m zero = inl refl
 set_marks (x ∷ xs) (suc i) y d m (suc j) = set_marks xs i y d m j
 
 operated_marks : (w : State) (t : ℕ) (p : Place) (l : ℕ) (f : Op) → Marks w (state_after_operation w t p l f)
-operated_marks w t p l f k = set_marks w.locks l _ (unlocked kind.TheVariants.Mutex) (inr refl) k
+operated_marks w t p l f k = set_marks w.locks l _ (unlocked kind.Mutex) (inr refl) k
 
 given_marks : (b : Bool) (w : State) (t : ℕ) (p : Place) (l : ℕ) (f : Op)
     → Marks w (state_after_hand_over_by b w t p l f)
-given_marks true w t p l f k = set_marks w.locks l _ (unlocked kind.TheVariants.Mutex) (inr refl) k
+given_marks true w t p l f k = set_marks w.locks l _ (unlocked kind.Mutex) (inr refl) k
 given_marks false w t p l f k = operated_marks w t p l f k
 
 sections_stay : (w : State) (keys : Keys) (who : Option ℕ) → (state_with_sections w keys who).locks ≡ w.locks
@@ -56,12 +56,12 @@ taken_stay w t None = refl
 taken_stay w t (Some u) = refl
 
 wake_stays : (w : State) (t : ℕ) (x : Wakes) → (state_after_wake w t x).locks ≡ w.locks
-wake_stays w t wakes.TheVariants.Nobody = refl
-wake_stays w t (wakes.TheVariants.All note) = refl
+wake_stays w t wakes.Nobody = refl
+wake_stays w t (wakes.All note) = refl
 
 stays : (w : State) (ls : List Lock) → ls ≡ w.locks → (k : ℕ)
-    → (get_or ls k (unlocked kind.TheVariants.Mutex)).filled ≡ filled_at w k
-stays w ls e k = ap (λ xs. (get_or xs k (unlocked kind.TheVariants.Mutex)).filled) e
+    → (get_or ls k (unlocked kind.Mutex)).filled ≡ filled_at w k
+stays w ls e k = ap (λ xs. (get_or xs k (unlocked kind.Mutex)).filled) e
 
 performed_marks : (w : State) (t : ℕ) (p : Place) (a : Act) → Marks w (state_after_act w t p a)
 performed_marks w t p (act.Word l f) k = operated_marks w t p l f k
@@ -69,7 +69,7 @@ performed_marks w t p (act.HandOver l f) k = given_marks (takes_effect f (word_a
 performed_marks w t p (act.Enter keys) k = inl (stays w _ (sections_stay w keys (Some t)) k)
 performed_marks w t p (act.Park l key check wanted) k =
     inl (stays w _ (parked_stay w (holds check (word_at w l)) (queues_with_last w.queues key t wanted)) k)
-performed_marks w t p (act.Take key whom.TheVariants.First) k =
+performed_marks w t p (act.Take key whom.First) k =
     inl (stays w _ (taken_stay (record w { queues = queues_without_first w.queues key }) t
     (first_of (queue_at w key))) k)
 performed_marks w t p (act.Remove key) k = inl refl
@@ -87,12 +87,12 @@ late_marks w t None k = inl refl
 late_marks w t (Some key) k = inl refl
 
 turned_marks : (w : State) (t : ℕ) (x : Turn) → Marks w (state_after_turn w t x)
-turned_marks w t (turn.TheVariants.Begin c) k = inl refl
-turned_marks w t turn.TheVariants.Go k = performed_marks w t (place_at w t) (act_of (place_at w t)) k
-turned_marks w t turn.TheVariants.Spin k = looked_marks w t (respins_from (place_at w t)) k
-turned_marks w t turn.TheVariants.Late k = late_marks w t (late_key (place_at w t)) k
-turned_marks w t turn.TheVariants.Ok k = looked_marks w t (Some (closed_place w t true)) k
-turned_marks w t turn.TheVariants.Err k = looked_marks w t (Some (closed_place w t false)) k
+turned_marks w t (turn.Begin c) k = inl refl
+turned_marks w t turn.Go k = performed_marks w t (place_at w t) (act_of (place_at w t)) k
+turned_marks w t turn.Spin k = looked_marks w t (respins_from (place_at w t)) k
+turned_marks w t turn.Late k = late_marks w t (late_key (place_at w t)) k
+turned_marks w t turn.Ok k = looked_marks w t (Some (closed_place w t true)) k
+turned_marks w t turn.Err k = looked_marks w t (Some (closed_place w t false)) k
 
 after_marks : (w : State) (s : Step) → Marks w (after w s)
 after_marks w s k = either (is_possible w s)

@@ -13,7 +13,7 @@ use Imports.{course_of, once_act, SemaphorePlace, is_free, semaphore_act, Place,
 use Imports.{act_of, next_place, profile, rwlock_goes, Befalls, tells, call_state, sleeps}
 use Rattle.core_base.specs.declared.keys.Line.{Line}
 use Rattle.core_base.specs.declared.notes.Note.TheVariants as note
-use Rattle.core_base.specs.declared.ops.Op as op
+use Rattle.core_base.specs.declared.ops.Op.TheVariants as op
 use Rattle.spec_locks.specs.declared.calls.Access.TheVariants as access
 use Rattle.steps_base.specs.declared.acts.Act.TheVariants as act
 use Rattle.steps_mutex.specs.declared.lock.LockAt.TheVariants as lock
@@ -134,8 +134,8 @@ mutex_hears l (mutex.Lock e again (lock.Handed by)) = asleep (λ t. refl) (λ ke
 mutex_hears l (mutex.Lock e again (lock.Decide seen)) = by_word (is_locked seen) (seen == 1)
   where
     by_word : (a b : Bool) → Hears l (Mutex l (mutex.Lock e again (lock.Decide seen)))
-        (if not a then Word l (op.TheVariants.Exchange seen (seen + 1)) else if b then Word l
-        (op.TheVariants.Exchange 1 3) else Enter (One (2 * l)))
+        (if not a then Word l (op.Exchange seen (seen + 1)) else if b then Word l
+        (op.Exchange 1 3) else Enter (One (2 * l)))
     by_word false b = alone refl refl refl (λ by r. refl)
     by_word true true = alone refl refl refl (λ by r. refl)
     by_word true false = alone refl refl refl (λ by r. refl)
@@ -184,8 +184,8 @@ semaphore_hears l (semaphore.Acquire timed again (acquire.Decide seen)) = by_wor
   where
     by_word : (free empty : Bool)
         → Hears l (Semaphore l (semaphore.Acquire timed again (acquire.Decide seen)))
-        (if free then Word l (op.TheVariants.Exchange seen (seen - 2)) else if empty then Word l
-        (op.TheVariants.Exchange 0 1) else Enter (One (2 * l)))
+        (if free then Word l (op.Exchange seen (seen - 2)) else if empty then Word l
+        (op.Exchange 0 1) else Enter (One (2 * l)))
     by_word true empty = alone refl refl refl (λ by r. refl)
     by_word false true = alone refl refl refl (λ by r. refl)
     by_word false false = alone refl refl refl (λ by r. refl)
@@ -193,7 +193,7 @@ semaphore_hears l (semaphore.Acquire timed again at) = alone refl refl refl (λ 
 semaphore_hears l (semaphore.Try (tries.Decide seen)) = by_word (is_free seen)
   where
     by_word : (free : Bool) → Hears l (Semaphore l (semaphore.Try (tries.Decide seen)))
-        (if free then Word l (op.TheVariants.Exchange seen (seen - 2)) else Word l op.TheVariants.Load)
+        (if free then Word l (op.Exchange seen (seen - 2)) else Word l op.Load)
     by_word true = deaf refl refl (λ t. refl) (λ key. refl) (λ t alone. refl) (λ n. refl)
     by_word false = deaf refl refl (λ t. refl) (λ key. refl) (λ t alone. refl) (λ n. refl)
 semaphore_hears l (semaphore.Try tries.Load) = deaf refl refl (λ t. refl) (λ key. refl) (λ t alone. refl)
@@ -292,7 +292,7 @@ rwlock_hears l a q again (at.Decide seen) = by_decision (decided a (place q agai
 rwlock_hears l a q again (at.Count seen) = by_aside (has_aside seen)
   where
     by_aside : (b : Bool) → HearsAt l a (place q again (at.Count seen)) (if b then Enter (One (2 * l + 1))
-        else Word l (op.TheVariants.Exchange seen (plus seen 2)))
+        else Word l (op.Exchange seen (plus seen 2)))
     by_aside true = alone_at refl refl
     by_aside false = alone_at refl refl
 rwlock_hears l a q again (at.Park parking.Asleep) = asleep_at (λ t. (_, (refl, refl)))
@@ -353,8 +353,8 @@ hand_over_hears : (l : ℕ) (a : Admission) (x : Access) (b : Bool) (to : HandOv
 hand_over_hears l a x b (handing.Exchange k seen) = by_room (has_room a.limit k seen) _ _
   where
     by_room : (c : Bool) (y z : ℕ) → Hears l (RwLock l a (fair.HandOver x b (handing.Exchange k seen)))
-        (if c then act.HandOver l (op.TheVariants.Exchange seen y) else Word l
-        (op.TheVariants.Exchange seen z))
+        (if c then act.HandOver l (op.Exchange seen y) else Word l
+        (op.Exchange seen z))
     by_room true y z = deaf refl refl (λ t. refl) (λ key. refl) (λ t alone. refl) (λ n. refl)
     by_room false y z = deaf refl refl (λ t. refl) (λ key. refl) (λ t alone. refl) (λ n. refl)
 hand_over_hears l a x b to = deaf refl refl (λ t. refl) (λ key. refl) (λ t alone. refl) (λ n. refl)

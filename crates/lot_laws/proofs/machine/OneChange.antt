@@ -17,10 +17,10 @@ use Rattle.lot_laws.proofs.calls.Closings.{afterwards, closing, goes_there, is_a
 use Rattle.lot_laws.proofs.calls.Looking.{closing_here}
 use Rattle.lot_laws.proofs.calls.OwnPlace.{goes_from_there}
 use Rattle.core_base.specs.declared.ops.Op as op
-use Rattle.spec_locks.specs.declared.kinds.Kind as kind
-use Rattle.steps_base.specs.declared.acts.Act as act
-use Rattle.steps_base.specs.declared.acts.Wakes as wakes
-use Rattle.spec_locks.specs.declared.calls.Turn as turn
+use Rattle.spec_locks.specs.declared.kinds.Kind.TheVariants as kind
+use Rattle.steps_base.specs.declared.acts.Act.TheVariants as act
+use Rattle.steps_base.specs.declared.acts.Wakes.TheVariants as wakes
+use Rattle.spec_locks.specs.declared.calls.Turn.TheVariants as turn
 use Rattle.lot_laws.proofs.calls.Looking.{looks_untouched}
 use Rattle.std.specs.Prelude.{nat_lt, length}
 use Rattle.lot_laws.proofs.condvar.Sections.{IsActOfTwo, condvar_lines, holds_key, left_at}
@@ -50,10 +50,10 @@ filled_same w (Two first second) who = (λ l. refl, λ key. refl)
 
 left_same : (w : State) (t : ℕ) (keys : Keys) (x : Wakes)
     → Same w (state_after_wake (state_with_sections w keys None) t x)
-left_same w t (One key) wakes.TheVariants.Nobody = (λ l. refl, λ key. refl)
-left_same w t (One key) (wakes.TheVariants.All note) = (λ l. refl, λ key. refl)
-left_same w t (Two first second) wakes.TheVariants.Nobody = (λ l. refl, λ key. refl)
-left_same w t (Two first second) (wakes.TheVariants.All note) = (λ l. refl, λ key. refl)
+left_same w t (One key) wakes.Nobody = (λ l. refl, λ key. refl)
+left_same w t (One key) (wakes.All note) = (λ l. refl, λ key. refl)
+left_same w t (Two first second) wakes.Nobody = (λ l. refl, λ key. refl)
+left_same w t (Two first second) (wakes.All note) = (λ l. refl, λ key. refl)
 
 -- a thread that goes on changes its place only, beside what its act does
 put_one : (w v : State) (t u : ℕ) (p : Place) → ChangesOneThing w t v → ChangesOneThing w t (put v u p)
@@ -65,7 +65,7 @@ module _ (w : State) (t : ℕ) (inductive : IsInductive w) (there : t < length w
   word_one p l f = inl (
     l,
     (λ k ne. ap (λ x. x.word) (get_or-set_other w.locks l k _
-        (unlocked kind.TheVariants.Mutex) ne)),
+        (unlocked kind.Mutex) ne)),
     λ key. refl,
   )
 
@@ -74,7 +74,7 @@ module _ (w : State) (t : ℕ) (inductive : IsInductive w) (there : t < length w
   given_one p l f false = word_one p l f
   given_one p l f true = inl (
     l,
-    (λ k ne. ap (λ x. x.word) (get_or-set_other w.locks l k _ (unlocked kind.TheVariants.Mutex) ne)),
+    (λ k ne. ap (λ x. x.word) (get_or-set_other w.locks l k _ (unlocked kind.Mutex) ne)),
     λ key. refl,
   )
 
@@ -141,24 +141,24 @@ module _ (w : State) (t : ℕ) (inductive : IsInductive w) (there : t < length w
   module _ (l : ℕ) (is_of : IsOf l (place_at w t)) where
     act_one : (p : Place) (a : Act) → IsLineAct l (location (place_at w t)) a
         → ChangesOneThing w t (state_after_act w t p a)
-    act_one p (act.TheVariants.Word k f) h = word_one p k f
-    act_one p (act.TheVariants.HandOver k f) h = given_one p k f (takes_effect f (word_at w k))
-    act_one p (act.TheVariants.Enter keys) h = filled_one keys (Some t)
-    act_one p (act.TheVariants.Park k key check x) h =
+    act_one p (act.Word k f) h = word_one p k f
+    act_one p (act.HandOver k f) h = given_one p k f (takes_effect f (word_at w k))
+    act_one p (act.Enter keys) h = filled_one keys (Some t)
+    act_one p (act.Park k key check x) h =
         park_one key x (holds_line w t l inductive is_of key h.0)
         (removed_at w t l inductive is_of h.0.0 h.0.1 h.1) (holds check (word_at w k))
-    act_one p (act.TheVariants.Stand key x) h = park_one key x (holds_line w t l inductive is_of key h.0)
+    act_one p (act.Stand key x) h = park_one key x (holds_line w t l inductive is_of key h.0)
         (removed_at w t l inductive is_of h.0.0 h.0.1 h.1) true
-    act_one p (act.TheVariants.Take key x) h = take_one key (holds_line w t l inductive is_of key h) x
-    act_one p (act.TheVariants.Requeue from to how) h = absurd h
-    act_one p (act.TheVariants.Remove key) h =
+    act_one p (act.Take key x) h = take_one key (holds_line w t l inductive is_of key h) x
+    act_one p (act.Requeue from to how) h = absurd h
+    act_one p (act.Remove key) h =
         inr ((λ k. refl), removed_at w t l inductive is_of h.0.0 h.0.1 h.1)
-    act_one p (act.TheVariants.Leave keys x) h = left_one keys x
-    act_one p act.TheVariants.Rest h = stays
-    act_one p act.TheVariants.Sleep h = stays
-    act_one p act.TheVariants.Accept h = stays
-    act_one p (act.TheVariants.Closure state) h = stays
-    act_one p (act.TheVariants.End answer) h = stays
+    act_one p (act.Leave keys x) h = left_one keys x
+    act_one p act.Rest h = stays
+    act_one p act.Sleep h = stays
+    act_one p act.Accept h = stays
+    act_one p (act.Closure state) h = stays
+    act_one p (act.End answer) h = stays
 
   one_gone : IsSingle (place_at w t) → (o : Option ℕ) → called_lock (place_at w t) ≡ o
       → ChangesOneThing w t (state_after_act w t (place_at w t) (act_of (place_at w t)))
@@ -180,28 +180,28 @@ module _ (w : State) (t : ℕ) (inductive : IsInductive w) (there : t < length w
         )
 
     act_of_two : (p : Place) (a : Act) → IsActOfTwo c at a → ChangesOneThing w t (state_after_act w t p a)
-    act_of_two p (act.TheVariants.Word k f) h = word_one p k f
-    act_of_two p (act.TheVariants.HandOver k f) h = given_one p k f (takes_effect f (word_at w k))
-    act_of_two p (act.TheVariants.Enter keys) h = filled_one keys (Some t)
-    act_of_two p (act.TheVariants.Park k key check x) h =
+    act_of_two p (act.Word k f) h = word_one p k f
+    act_of_two p (act.HandOver k f) h = given_one p k f (takes_effect f (word_at w k))
+    act_of_two p (act.Enter keys) h = filled_one keys (Some t)
+    act_of_two p (act.Park k key check x) h =
         park_one key x (holds_key w t c at inductive is fits key h.0) (left_at w t c at inductive is fits key
         h.1
         h.0) (holds check (word_at w k))
-    act_of_two p (act.TheVariants.Stand key x) h =
+    act_of_two p (act.Stand key x) h =
         park_one key x (holds_key w t c at inductive is fits key h.0)
         (left_at w t c at inductive is fits key h.1 h.0) true
-    act_of_two p (act.TheVariants.Take key x) h = take_one key (holds_key w t c at inductive is fits key h) x
-    act_of_two p (act.TheVariants.Requeue from to how) h =
+    act_of_two p (act.Take key x) h = take_one key (holds_key w t c at inductive is fits key h) x
+    act_of_two p (act.Requeue from to how) h =
         requeued_one from to how (holds_key w t c at inductive is fits from h.0)
         (holds_key w t c at inductive is fits to h.1)
-    act_of_two p (act.TheVariants.Remove key) h =
+    act_of_two p (act.Remove key) h =
         inr ((λ k. refl), left_at w t c at inductive is fits key h.1 h.0)
-    act_of_two p (act.TheVariants.Leave keys x) h = left_one keys x
-    act_of_two p act.TheVariants.Rest h = stays
-    act_of_two p act.TheVariants.Sleep h = stays
-    act_of_two p act.TheVariants.Accept h = stays
-    act_of_two p (act.TheVariants.Closure state) h = stays
-    act_of_two p (act.TheVariants.End answer) h = stays
+    act_of_two p (act.Leave keys x) h = left_one keys x
+    act_of_two p act.Rest h = stays
+    act_of_two p act.Sleep h = stays
+    act_of_two p act.Accept h = stays
+    act_of_two p (act.Closure state) h = stays
+    act_of_two p (act.End answer) h = stays
 
   two_gone : (two : IsOfTwo (place_at w t))
       → ChangesOneThing w t (state_after_act w t (place_at w t) (act_of (place_at w t)))
@@ -244,15 +244,15 @@ module _ (w : State) (t : ℕ) (inductive : IsInductive w) (there : t < length w
       swapped = state_after_operation w t swaps one.lock (op.TheVariants.Swap (word_after succeeded))
 
   turned_one : (x : Turn) → can_turn w t x ≡ true → ChangesOneThing w t (state_after_turn w t x)
-  turned_one (turn.TheVariants.Begin c) can = put_one w w t t (first_place (kind_at w (lock_in c)) c) stays
-  turned_one turn.TheVariants.Go can = let acted = state_after_act w t (place_at w t) (act_of (place_at w t))
+  turned_one (turn.Begin c) can = put_one w w t t (first_place (kind_at w (lock_in c)) c) stays
+  turned_one turn.Go can = let acted = state_after_act w t (place_at w t) (act_of (place_at w t))
       in
       put_one w acted t t (next_place (place_at acted t) (go_reply w t))
       (gone_one (called_lock (place_at w t)) refl)
-  turned_one turn.TheVariants.Spin can = spin_one (respins_from (place_at w t)) refl
-  turned_one turn.TheVariants.Late can = late_one (late_key (place_at w t))
-  turned_one turn.TheVariants.Ok can = closed_one true (closes_one w t true can)
-  turned_one turn.TheVariants.Err can = closed_one false (closes_one w t false can)
+  turned_one turn.Spin can = spin_one (respins_from (place_at w t)) refl
+  turned_one turn.Late can = late_one (late_key (place_at w t))
+  turned_one turn.Ok can = closed_one true (closes_one w t true can)
+  turned_one turn.Err can = closed_one false (closes_one w t false can)
 
 pub one_thing : (w : State) (s : Step) → IsInductive w → ChangesOneThing w s.thread (after w s)
 one_thing w s inductive = either (is_possible w s) refl
@@ -271,15 +271,15 @@ late_touches w t (Some key) = (λ l. refl, λ key. refl)
 
 turned_touches : (w : State) (t : ℕ) (x : Turn) → t < length w.places → TouchesOnlyByGoing w x
     (state_after_turn w t x)
-turned_touches w t (turn.TheVariants.Begin c) there = (λ l. refl, λ key. refl)
-turned_touches w t turn.TheVariants.Spin there = spun_touches w t there (respins_from (place_at w t)) refl
-turned_touches w t turn.TheVariants.Late there = late_touches w t (late_key (place_at w t))
+turned_touches w t (turn.Begin c) there = (λ l. refl, λ key. refl)
+turned_touches w t turn.Spin there = spun_touches w t there (respins_from (place_at w t)) refl
+turned_touches w t turn.Late there = late_touches w t (late_key (place_at w t))
 turned_touches w t x there = tt
 
 untouched : (w : State) (x : Turn) → TouchesOnlyByGoing w x w
-untouched w (turn.TheVariants.Begin c) = (λ l. refl, λ key. refl)
-untouched w turn.TheVariants.Spin = (λ l. refl, λ key. refl)
-untouched w turn.TheVariants.Late = (λ l. refl, λ key. refl)
+untouched w (turn.Begin c) = (λ l. refl, λ key. refl)
+untouched w turn.Spin = (λ l. refl, λ key. refl)
+untouched w turn.Late = (λ l. refl, λ key. refl)
 untouched w x = tt
 
 pub touches : (w : State) (s : Step) → TouchesOnlyByGoing w s.turn (after w s)

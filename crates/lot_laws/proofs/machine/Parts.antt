@@ -15,9 +15,9 @@ use Imports.{kind_at, word_at, owners_at, shares_at, filled_at, queue_at, place_
 use Imports.{shares_in_hand, with_share, shares_given, wants_more_in_hand, successor_or, successor_from, put}
 use Imports.{held_by, Successor, lock_seen, taken_at, mutex_location, mutex_role, location, location_at}
 use Imports.{nowhere, role_on, rules_in, hand_at, FitsItsLock, IsInductive, TakesOne}
-use Rattle.spec_locks.specs.declared.kinds.Kind as kind
+use Rattle.spec_locks.specs.declared.kinds.Kind.TheVariants as kind
 use Rattle.steps_mutex.specs.declared.lock.LockAt.TheVariants as lock
-use Rattle.steps_base.specs.declared.acts.Next as next
+use Rattle.steps_base.specs.declared.acts.Next.TheVariants as next
 use Rattle.std.specs.Prelude.{◌&&◌, ◌||◌}
 use Rattle.spec_locks.specs.Locks as locks
 use Rattle.lot_laws.specs.Locations.{Location, hand, location_by}
@@ -435,8 +435,8 @@ of_own l (Semaphore k at) single own = cc
 of_own l (Condvar k at) single own = absurd single
 
 goes_on : (l k : ℕ) (n : Next MutexPlace) → k ≡ l → IsOf l (mutex_goes k n)
-goes_on l k (next.TheVariants.At at) e = e
-goes_on l k (next.TheVariants.End answer) e = tt
+goes_on l k (next.At at) e = e
+goes_on l k (next.End answer) e = tt
 
 pub next_of : (l : ℕ) (p : Place) (reply : Reply) → IsOf l p → IsOf l (next_place p reply)
 next_of l Idle reply h = tt
@@ -444,18 +444,18 @@ next_of l (Mutex k at) reply h = goes_on l k (mutex_next at reply) h
 next_of l (RwLock k a at) reply h = by_next (call_next a at reply)
   where
     by_next : (n : Next RwLockCallPlace) → IsOf l (rwlock_goes k a n)
-    by_next (next.TheVariants.At at) = h
-    by_next (next.TheVariants.End answer) = tt
+    by_next (next.At at) = h
+    by_next (next.End answer) = tt
 next_of l (Once k at) reply h = by_next (once_next at reply)
   where
     by_next : (n : Next OncePlace) → IsOf l (once_goes k n)
-    by_next (next.TheVariants.At at) = h
-    by_next (next.TheVariants.End answer) = tt
+    by_next (next.At at) = h
+    by_next (next.End answer) = tt
 next_of l (Semaphore k at) reply h = by_next (semaphore_next at reply)
   where
     by_next : (n : Next SemaphorePlace) → IsOf l (semaphore_goes k n)
-    by_next (next.TheVariants.At at) = h
-    by_next (next.TheVariants.End answer) = tt
+    by_next (next.At at) = h
+    by_next (next.End answer) = tt
 next_of l (Condvar k at) reply h = absurd h
 
 -- a call of one lock stays one
@@ -681,7 +681,7 @@ abbrev pub IsApart : Place → Type 0
 IsApart p = (m : ℕ) → beside_of p ≡ Some m → calls p m ≡ false
 
 pub plain_rules : (k : Kind) → is_plain_mutex k ≡ true → rules_of k ≡ mutex
-plain_rules kind.TheVariants.Mutex h = refl
+plain_rules kind.Mutex h = refl
 plain_rules k h = absurd cc
 
 pub condvar_apart : (w : State) (k : ℕ) (at : CondvarPlace) → FitsItsLock w (Condvar k at) → (m : ℕ)

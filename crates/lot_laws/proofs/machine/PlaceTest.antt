@@ -84,9 +84,9 @@ pub record RowFacts (row : Profile) (a : Act) : Type 0 where
   -- inside a section its thread goes freely
   pub goes : (m : Line) → row.role.inside ≡ Some m → IsFree a
   -- a thread that has others in hand is inside
-  pub carries : row.role.carries ≡ true → (m : Line) × (row.role.inside ≡ Some m)
+  pub has_taken : row.role.has_taken ≡ true → (m : Line) × (row.role.inside ≡ Some m)
   -- one that is to take waiters beside a clear bit owes them their wake
-  pub owed : row.role.sets ≡ true → row.role.wakes ≡ Some Main → row.owes ≡ Some Main
+  pub owed : row.role.bit_pending ≡ true → row.role.wakes ≡ Some Main → row.owes ≡ Some Main
   -- one that stands in a line is in no hand
   pub unheld : (m : Line) → row.stands ≡ Some m → row.hand ≡ None
 
@@ -102,7 +102,7 @@ pub record PlaceFacts (shared : Bool) (l : ℕ) (row : Profile) (a : Act) : Type
   -- the row says nothing of a condition variable
   pub silent : IsSilent row
   -- one that is in a hand has nobody in hand
-  pub bare : (row.hand ≡ None) ⊎ (row.carries ≡ None)
+  pub bare : (row.hand ≡ None) ⊎ (row.has_taken ≡ None)
   -- the thread's act is on a line of the lock
   pub line : IsLineAct l (location_by row) a
   -- on the main one, where there is no other
@@ -129,8 +129,8 @@ carries_none c = false
 abbrev row_test : Profile → Act → Bool
 row_test row a =
     (no_line row.role.inside || goes_free a)
-    && ((not row.role.carries || not (no_line row.role.inside))
-    && ((not (row.role.sets && is_line Main row.role.wakes) || is_line Main row.owes)
+    && ((not row.role.has_taken || not (no_line row.role.inside))
+    && ((not (row.role.bit_pending && is_line Main row.role.wakes) || is_line Main row.owes)
     && (no_hand row.hand || no_line row.stands)))
 
 abbrev no_stage : Option CondvarPhase → Bool
@@ -177,10 +177,10 @@ tries q = false
 
 abbrev place_test : Bool → Line → Profile → Act → Bool → Bool
 place_test shared m row a tried =
-    row_test row a && (silent_test row && ((no_hand row.hand || carries_none row.carries)
+    row_test row a && (silent_test row && ((no_hand row.hand || carries_none row.has_taken)
     && (line_test m row a && ((shared || is_line Main (Some m)) && (shared || (goes_free a || not tried))))))
 
--- ---------------------------------------------------------------- it says so
+-- ---------------------------------------------------------------- what the test says
 
 no_line_so : (x : Option Line) (m : Line) → no_line x ≡ true → x ≡ Some m → ⊥
 no_line_so None m h e = cc
@@ -227,21 +227,21 @@ free_so a h = (refl, refl, refl)
 row_so : (row : Profile) (a : Act) → row_test row a ≡ true → RowFacts row a
 row_so row a h =
     let t1 = both (no_line row.role.inside || goes_free a) _ h in
-    let t2 = both (not row.role.carries || not (no_line row.role.inside)) _ t1.1 in
-    let t3 = both (not (row.role.sets && is_line Main row.role.wakes) || is_line Main row.owes) _ t2.1 in
+    let t2 = both (not row.role.has_taken || not (no_line row.role.inside)) _ t1.1 in
+    let t3 = both (not (row.role.bit_pending && is_line Main row.role.wakes) || is_line Main row.owes) _ t2.1 in
     record {
       goes = λ m e. elim (either (no_line row.role.inside) (goes_free a) t1.0) [
         | inl x ↦
             absurd (no_line_so row.role.inside m x e)
         | inr x ↦ free_so a x
       ];
-      carries = λ e. elim (either (not row.role.carries) _ t2.0) [
+      has_taken = λ e. elim (either (not row.role.has_taken) _ t2.0) [
         | inl x ↦
-            absurd (not_so row.role.carries x e)
+            absurd (not_so row.role.has_taken x e)
         | inr x ↦ some_so row.role.inside x
       ];
-      owed = λ sets wakes. elim (either (not (row.role.sets && is_line Main row.role.wakes)) _ t3.0) [
-        | inl x ↦ absurd (not_so (row.role.sets && is_line Main row.role.wakes) x (rw (sets, wakes) refl))
+      owed = λ bit_pending wakes. elim (either (not (row.role.bit_pending && is_line Main row.role.wakes)) _ t3.0) [
+        | inl x ↦ absurd (not_so (row.role.bit_pending && is_line Main row.role.wakes) x (rw (bit_pending, wakes) refl))
         | inr x ↦ line_is Main row.owes x
       ];
       unheld = λ m e. elim (either (no_hand row.hand) _ t3.1) [
@@ -329,7 +329,7 @@ facts : (shared : Bool) (l : ℕ) (row : Profile) (a : Act) (m : Line) (tried : 
 facts shared l row a m tried e q h =
     let t1 = both (row_test row a) _ h in
     let s1 = both (silent_test row) _ t1.1 in
-    let t2 = both (no_hand row.hand || carries_none row.carries) _ s1.1 in
+    let t2 = both (no_hand row.hand || carries_none row.has_taken) _ s1.1 in
     let t3 = both (line_test m row a) _ t2.1 in
     let t4 = both (shared || is_line Main (Some m)) _ t3.1 in
     record {
@@ -338,7 +338,7 @@ facts shared l row a m tried e q h =
       bare = elim (either (no_hand row.hand) _ t2.0) [
         | inl x ↦ inl (hand_so row.hand x)
         | inr x ↦
-            inr (carries_so row.carries x)
+            inr (carries_so row.has_taken x)
       ];
       line = line_so l m row a e t3.0;
       main = λ alone. main_so l m row a e t3.0 (subst (λ b. (b || is_line Main (Some m)) ≡ true) alone t4.0);
@@ -396,8 +396,8 @@ pub mutex_row_facts : (l : ℕ) (p : MutexPlace) → PlaceFacts false l (mutex_r
 mutex_row_facts l p = let f = mutex_facts l p in record {
   by_row = record {
     goes = f.by_row.goes;
-    carries = f.by_row.carries;
-    owed = λ sets wakes. absurd cc;
+    has_taken = f.by_row.has_taken;
+    owed = λ bit_pending wakes. absurd cc;
     unheld = f.by_row.unheld;
   };
   silent = record { stage = f.silent.stage; names = f.silent.names; recalls = f.silent.recalls };
@@ -504,7 +504,7 @@ call_facts l a (fair.Plain p) = rwlock_facts l a p.purpose p.retries p.at
 call_facts l a (fair.Bump p) = let f = rwlock_facts l a p.purpose p.retries p.at in record {
   by_row = record {
     goes = f.by_row.goes;
-    carries = f.by_row.carries;
+    has_taken = f.by_row.has_taken;
     owed = f.by_row.owed;
     unheld = f.by_row.unheld;
   };
@@ -541,8 +541,8 @@ wait_beside : (l m : ℕ) (timed : Bool) (to : WaitAt) → RowFacts (mutex_side 
     (condvar_act l (condvar.Wait m timed to))
 wait_beside l m timed (wait.Release s to) = let f = (mutex_facts m to).by_row in record {
   goes = f.goes;
-  carries = f.carries;
-  owed = λ sets wakes. ap (λ x. in_line (is_main_line x) Main) (f.owed sets wakes);
+  has_taken = f.has_taken;
+  owed = λ bit_pending wakes. ap (λ x. in_line (is_main_line x) Main) (f.owed bit_pending wakes);
   unheld = by_stand s;
 }
   where
@@ -551,8 +551,8 @@ wait_beside l m timed (wait.Release s to) = let f = (mutex_facts m to).by_row in
     by_stand s n h = absurd cc
 wait_beside l m timed (wait.Lock late to) = let f = (mutex_facts m to).by_row in record {
   goes = f.goes;
-  carries = f.carries;
-  owed = λ sets wakes. ap (λ x. in_line (is_main_line x) Main) (f.owed sets wakes);
+  has_taken = f.has_taken;
+  owed = λ bit_pending wakes. ap (λ x. in_line (is_main_line x) Main) (f.owed bit_pending wakes);
   unheld = λ n h. f.unheld Main (by_line (mutex_profile to).stands n h);
 }
   where

@@ -3,14 +3,14 @@ use Rattle.lot_laws.proofs.Imports
 use Imports.{ℕ, Option, ◌≡◌, ◌<◌, List, length, length-set, replicate, get_or, get_or-set_other}
 use Imports.{get_or-set_same, inl, inr, refl, ◌∙◌, ap, cases_eq, Place, Idle, Rights, rights_of, CallState}
 use Imports.{Stays, State, place_at, put, call_state, lock_state, locks_of, taken_at}
-use Rattle.spec_locks.specs.declared.outcomes.Outcome as outcome
+use Rattle.spec_locks.specs.declared.outcomes.Outcome.TheVariants as outcome
 use Rattle.lot_laws.proofs.calls.CallEvents.{put_is, rights}
 
 module _ (w : State) (t : ℕ) (there : t < length w.places) where
   pub placed : (s : List (Option ℕ)) (p p2 : Place) → place_at w t ≡ p
       → ((k : ℕ) → taken_at p2 k ≡ taken_at p k)
       → (c : CallState) → ((r : ℕ → Rights) → r ≡ rights w t → call_state p2 r ≡ c)
-      → Stays (locks_of w) t c outcome.TheVariants.Step (locks_of (put (record w { sections = s }) t p2))
+      → Stays (locks_of w) t c outcome.Step (locks_of (put (record w { sections = s }) t p2))
   placed s p p2 is stays c called = record {
     told = refl;
     locks = same_locks;

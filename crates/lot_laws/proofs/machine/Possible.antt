@@ -23,16 +23,16 @@ use Imports.{call_next, RwLockCall, Patient, Timed, Try}
 use Rattle.lot_laws.proofs.once.OnceOwing.{late_place}
 use Rattle.lot_laws.proofs.calls.Closures.{call_runs_none, closure_told, mutex_runs_none, condvar_runs_none}
 use Rattle.lot_laws.proofs.calls.Closures.{semaphore_runs_none}
-use Rattle.spec_locks.specs.declared.calls.Turn as turn
-use Rattle.spec_locks.specs.declared.calls.Call as call
-use Rattle.spec_locks.specs.declared.calls.MutexCall as mutex_call
-use Rattle.spec_locks.specs.declared.outcomes.Outcome as outcome
+use Rattle.spec_locks.specs.declared.calls.Turn.TheVariants as turn
+use Rattle.spec_locks.specs.declared.calls.Call.TheVariants as call
+use Rattle.spec_locks.specs.declared.calls.MutexCall.TheVariants as mutex_call
+use Rattle.spec_locks.specs.declared.outcomes.Outcome.TheVariants as outcome
 use Rattle.steps_base.specs.declared.acts.Act.TheVariants.{Rest, Park, End}
 use Rattle.steps_base.specs.declared.acts.Act.TheVariants as act
 use Rattle.steps_base.specs.declared.acts.Next.TheVariants as next
 use Rattle.spec_locks.specs.declared.calls.SemaphoreCall.TheVariants as semaphore_call
-use Rattle.steps_base.specs.declared.acts.Wakes as wakes
-use Rattle.steps_base.specs.declared.acts.TakeWhich as whom
+use Rattle.steps_base.specs.declared.acts.Wakes.TheVariants as wakes
+use Rattle.steps_base.specs.declared.acts.TakeWhich.TheVariants as whom
 use Rattle.lot_laws.specs.Locations.{Location}
 use Rattle.lot_laws.specs.Refinement.{runs_closure}
 use Rattle.lot_laws.proofs.calls.SingleCalls.{call_none}
@@ -252,7 +252,7 @@ module _ (w : State) (t : ℕ) (inductive : IsInductive w) where
 -- ---------------------------------------------------------------- the notes to a thread
 
 -- a thread that goes on is told that it sleeps where it sleeps then
-told_act : (a : Act) → (outcome_of a ≡ outcome.TheVariants.Sleep) ↔ (sleeps a ≡ true)
+told_act : (a : Act) → (outcome_of a ≡ outcome.Sleep) ↔ (sleeps a ≡ true)
 told_act Sleep = ((λ h. refl), λ h. refl)
 told_act (End answer) = ((λ h. cc), λ h. cc)
 told_act (Closure state) = ((λ h. cc), λ h. cc)
@@ -260,38 +260,38 @@ told_act Rest = ((λ h. cc), λ h. cc)
 told_act a = ((λ h. cc), λ h. cc)
 
 told_next : (l : ℕ) (n : Next MutexPlace)
-    → (outcome_of (mutex_does l n) ≡ outcome.TheVariants.Sleep) ↔ (sleeps (act_of (mutex_goes l n)) ≡ true)
+    → (outcome_of (mutex_does l n) ≡ outcome.Sleep) ↔ (sleeps (act_of (mutex_goes l n)) ≡ true)
 told_next l (next.At at) = told_act (mutex_act l at)
 told_next l (next.End answer) = ((λ h. cc), λ h. cc)
 
 pub told_gone : (p : Place) (r : Reply)
-    → (outcome_of (next_act p r) ≡ outcome.TheVariants.Sleep) ↔ (sleeps (act_of (next_place p r)) ≡ true)
+    → (outcome_of (next_act p r) ≡ outcome.Sleep) ↔ (sleeps (act_of (next_place p r)) ≡ true)
 told_gone Idle r = ((λ h. cc), λ h. cc)
 told_gone (Mutex l at) r = told_next l (mutex_next at r)
 told_gone (Once l at) r = by_next (once_next at r)
   where
     by_next : (n : Next OncePlace)
-        → (outcome_of (once_does l n) ≡ outcome.TheVariants.Sleep) ↔ (sleeps (act_of (once_goes l n)) ≡ true)
+        → (outcome_of (once_does l n) ≡ outcome.Sleep) ↔ (sleeps (act_of (once_goes l n)) ≡ true)
     by_next (next.At q) = told_act (once_act l q)
     by_next (next.End answer) = ((λ h. cc), λ h. cc)
 told_gone (Semaphore l at) r = by_next (semaphore_next at r)
   where
     by_next : (n : Next SemaphorePlace)
-        → (outcome_of (semaphore_does l n) ≡ outcome.TheVariants.Sleep)
+        → (outcome_of (semaphore_does l n) ≡ outcome.Sleep)
         ↔ (sleeps (act_of (semaphore_goes l n)) ≡ true)
     by_next (next.At q) = told_act (semaphore_act l q)
     by_next (next.End answer) = ((λ h. cc), λ h. cc)
 told_gone (RwLock l a c) r = by_next (call_next a c r)
   where
     by_next : (n : Next RwLockCallPlace)
-        → (outcome_of (rwlock_does l a n) ≡ outcome.TheVariants.Sleep) ↔ (sleeps (act_of (rwlock_goes l a n))
+        → (outcome_of (rwlock_does l a n) ≡ outcome.Sleep) ↔ (sleeps (act_of (rwlock_goes l a n))
         ≡ true)
     by_next (next.At q) = told_act (call_act l a q)
     by_next (next.End answer) = ((λ h. cc), λ h. cc)
 told_gone (Condvar l at) r = by_next (condvar_next at r)
   where
     by_next : (n : Next CondvarPlace)
-        → (outcome_of (condvar_does l n) ≡ outcome.TheVariants.Sleep) ↔ (sleeps (act_of (condvar_goes l n))
+        → (outcome_of (condvar_does l n) ≡ outcome.Sleep) ↔ (sleeps (act_of (condvar_goes l n))
         ≡ true)
     by_next (next.At q) = told_act (condvar_act l q)
     by_next (next.End answer) = ((λ h. cc), λ h. cc)
@@ -333,12 +333,12 @@ closure_gone (Condvar l at) r = by_next (condvar_next at r)
 
 -- no call begins in its closure, and none is late there
 pub begins_outside : (k : Kind) (c : Call) → runs_closure (act_of (first_place k c)) ≡ false
-begins_outside k (call.TheVariants.RwLock l c) = call_runs_none l (admission_of_kind k) (call_first c)
-begins_outside k (call.TheVariants.Once l c) = refl
-begins_outside k (call.TheVariants.Semaphore l c) = semaphore_runs_none l (semaphore_first c)
-begins_outside k (call.TheVariants.Condvar l (condvar.Wait m timed)) = refl
-begins_outside k (call.TheVariants.Condvar l (condvar.Notify all)) = refl
-begins_outside k (call.TheVariants.Mutex l c) = mutex_runs_none l (mutex_first (is_fair k) c)
+begins_outside k (call.RwLock l c) = call_runs_none l (admission_of_kind k) (call_first c)
+begins_outside k (call.Once l c) = refl
+begins_outside k (call.Semaphore l c) = semaphore_runs_none l (semaphore_first c)
+begins_outside k (call.Condvar l (condvar.Wait m timed)) = refl
+begins_outside k (call.Condvar l (condvar.Notify all)) = refl
+begins_outside k (call.Mutex l c) = mutex_runs_none l (mutex_first (is_fair k) c)
 
 pub late_outside : (p : Place) → late_key p ≢ None → runs_closure (act_of (next_place p Late)) ≡ false
 late_outside Idle h = refl
@@ -369,15 +369,15 @@ late_outside (Once l at) h = by_line (once_profile at).late_line refl h
     by_line None e h = absurd (h refl)
     by_line (Some m) e h = ap (λ p. runs_closure (act_of (next_place (Once l p) Late))) (late_place at m e).1
 
-pub told_step : (b : Bool) → b ≡ false → (outcome.TheVariants.Step ≡ outcome.TheVariants.Sleep) ↔ (b ≡ true)
+pub told_step : (b : Bool) → b ≡ false → (outcome.Step ≡ outcome.Sleep) ↔ (b ≡ true)
 told_step true h = absurd cc
 told_step false h = ((λ e. cc), λ e. cc)
 
 -- a call begins awake
 pub begins_awake : (k : Kind) (c : Call) → sleeps (act_of (first_place k c)) ≡ false
-begins_awake k (call.TheVariants.Condvar l (condvar.Wait m timed)) = refl
-begins_awake k (call.TheVariants.Condvar l (condvar.Notify all)) = refl
-begins_awake k (call.TheVariants.RwLock l c) = by_call c
+begins_awake k (call.Condvar l (condvar.Wait m timed)) = refl
+begins_awake k (call.Condvar l (condvar.Notify all)) = refl
+begins_awake k (call.RwLock l c) = by_call c
   where
     by_call : (c : RwLockCall) → sleeps (call_act l (admission_of_kind k) (call_first c)) ≡ false
     by_call (rwlock_call.Enter access.Exclusive how) = refl
@@ -391,42 +391,42 @@ begins_awake k (call.TheVariants.RwLock l c) = by_call c
     by_call (rwlock_call.ReleaseFair access.Upgradable) = refl
     by_call (rwlock_call.ReleaseFair access.Exclusive) = refl
     by_call (rwlock_call.Bump x) = refl
-begins_awake k (call.TheVariants.Once l c) = refl
-begins_awake k (call.TheVariants.Semaphore l c) = by_call c
+begins_awake k (call.Once l c) = refl
+begins_awake k (call.Semaphore l c) = by_call c
   where
     by_call : (c : SemaphoreCall) → sleeps (act_of (Semaphore l (semaphore_first c))) ≡ false
     by_call (semaphore_call.Acquire Patient) = refl
     by_call (semaphore_call.Acquire Timed) = refl
     by_call (semaphore_call.Acquire Try) = refl
     by_call semaphore_call.Release = refl
-begins_awake k (call.TheVariants.Mutex l c) = either (is_fair k) c
+begins_awake k (call.Mutex l c) = either (is_fair k) c
   where
     either : (fair : Bool) (c : MutexCall) → sleeps (act_of (Mutex l (mutex_first fair c))) ≡ false
-    either fair mutex_call.TheVariants.Lock = refl
-    either fair mutex_call.TheVariants.LockTimed = refl
-    either fair mutex_call.TheVariants.TryLock = refl
-    either true mutex_call.TheVariants.Unlock = refl
-    either false mutex_call.TheVariants.Unlock = refl
-    either fair mutex_call.TheVariants.UnlockFair = refl
-    either fair mutex_call.TheVariants.Bump = refl
+    either fair mutex_call.Lock = refl
+    either fair mutex_call.LockTimed = refl
+    either fair mutex_call.TryLock = refl
+    either true mutex_call.Unlock = refl
+    either false mutex_call.Unlock = refl
+    either fair mutex_call.UnlockFair = refl
+    either fair mutex_call.Bump = refl
 
 -- ---------------------------------------------------------------- nobody past the last thread
 
 pub nobody_turns : (w : State) (t : ℕ) (x : Turn) → place_at w t ≡ Idle → t < length w.places
     ⊎ (MayTurn (locks_of w) t x → ⊥)
-nobody_turns w t (turn.TheVariants.Begin c) idle = elim (cases_lt t (length w.places)) [
+nobody_turns w t (turn.Begin c) idle = elim (cases_lt t (length w.places)) [
   | inl lt ↦ inl lt
   | inr ge ↦ inr (λ may. let lt : t < length w.places = may.thread in omega arith)
 ]
-nobody_turns w t turn.TheVariants.Go idle =
+nobody_turns w t turn.Go idle =
     inr (λ may. may.called (ap (λ p. (call_state p (rights w t)).purpose) idle))
-nobody_turns w t turn.TheVariants.Spin idle = inr (λ may. let e : false ≡ true =
+nobody_turns w t turn.Spin idle = inr (λ may. let e : false ≡ true =
     sym (ap (λ p. is_some (respins_from p)) idle) ∙ may in cc)
-nobody_turns w t turn.TheVariants.Late idle = inr (λ may. let e : false ≡ true =
+nobody_turns w t turn.Late idle = inr (λ may. let e : false ≡ true =
     sym (ap (λ p. sleeps (act_of p)) idle) ∙ may.asleep in cc)
-nobody_turns w t turn.TheVariants.Ok idle = inr (λ may. let e : false ≡ true =
+nobody_turns w t turn.Ok idle = inr (λ may. let e : false ≡ true =
     sym (ap (λ p. runs_closure (act_of p)) idle) ∙ may in cc)
-nobody_turns w t turn.TheVariants.Err idle = inr (λ may. let e : false ≡ true =
+nobody_turns w t turn.Err idle = inr (λ may. let e : false ≡ true =
     sym (ap (λ p. runs_closure (act_of p)) idle) ∙ may in cc)
 
 -- each thread that takes a turn is there
@@ -478,8 +478,8 @@ module _ (w : State) (t : ℕ) where
   left_sections : (keys : Keys) (x : Wakes) (key : ℕ)
       → section_at (state_after_wake (state_with_sections w keys None) t x) key ≡ section_at
       (state_with_sections w keys None) key
-  left_sections keys wakes.TheVariants.Nobody key = refl
-  left_sections keys (wakes.TheVariants.All note) key = refl
+  left_sections keys wakes.Nobody key = refl
+  left_sections keys (wakes.All note) key = refl
 
   given_sections : (p : Place) (k : ℕ) (op : Op) (b : Bool) (key : ℕ)
       → section_at (state_after_hand_over_by b w t p k op) key ≡ section_at w key
@@ -487,10 +487,10 @@ module _ (w : State) (t : ℕ) where
   given_sections p k op false key = refl
 
   took_all : (key : ℕ) (x : TakeWhich) (k : ℕ) → section_at (state_after_take w t key x) k ≡ section_at w k
-  took_all key whom.TheVariants.First k = took_sections (queues_without_first w.queues key)
+  took_all key whom.First k = took_sections (queues_without_first w.queues key)
       (first_of (queue_at w key)) k
-  took_all key (whom.TheVariants.Picked start recursive) k = refl
-  took_all key whom.TheVariants.All k = refl
+  took_all key (whom.Picked start recursive) k = refl
+  took_all key whom.All k = refl
 
   module _ (shape : IsWellFormed w) (inductive : IsInductive w) (l : ℕ) (is_of : IsOf l (place_at w t))
       (lt : l < length w.locks) where

@@ -12,7 +12,7 @@ use Imports.{place_at}
 use Imports.{put, state_after_act, state_after_go, state_after_going, state_after_late_on, state_after_look}
 use Imports.{state_after_turn, state_with_sections, Befalls, acted_keeps, sleeps, stance_by, stance_of}
 use Rattle.core_base.specs.declared.notes.Note.TheVariants as note
-use Rattle.spec_locks.specs.declared.calls.Turn as turn
+use Rattle.spec_locks.specs.declared.calls.Turn.TheVariants as turn
 use Rattle.steps_mutex.specs.declared.lock.LockAt.TheVariants as lock
 use Rattle.steps_mutex.specs.declared.unlock.UnlockAt.TheVariants as unlock
 use Rattle.steps_mutex.specs.declared.hand_off.HandOffAt.TheVariants as hand_off
@@ -512,12 +512,12 @@ module _ (s : Status) (awake : s.asleep ≡ false) where
 
   turned_keeps : (w : State) (t u : ℕ) (x : Turn) → u ≢ t → As (place_at w u)
       → As (place_at (state_after_turn w t x) u)
-  turned_keeps w t u (turn.TheVariants.Begin c) ne h = put_keeps w t u _ ne h
-  turned_keeps w t u turn.TheVariants.Go ne h = went_keeps w t u (place_at w t) ne h
-  turned_keeps w t u turn.TheVariants.Spin ne h = spun_keeps w t u (respins_from (place_at w t)) ne h
-  turned_keeps w t u turn.TheVariants.Late ne h = late_keeps w t u (late_key (place_at w t)) ne h
-  turned_keeps w t u turn.TheVariants.Ok ne h = put_went_keeps w t u (closed_place w t true) ne h
-  turned_keeps w t u turn.TheVariants.Err ne h = put_went_keeps w t u (closed_place w t false) ne h
+  turned_keeps w t u (turn.Begin c) ne h = put_keeps w t u _ ne h
+  turned_keeps w t u turn.Go ne h = went_keeps w t u (place_at w t) ne h
+  turned_keeps w t u turn.Spin ne h = spun_keeps w t u (respins_from (place_at w t)) ne h
+  turned_keeps w t u turn.Late ne h = late_keeps w t u (late_key (place_at w t)) ne h
+  turned_keeps w t u turn.Ok ne h = put_went_keeps w t u (closed_place w t true) ne h
+  turned_keeps w t u turn.Err ne h = put_went_keeps w t u (closed_place w t false) ne h
 
   stepped_keeps : (w : State) (x : Step) (u : ℕ) → u ≢ x.thread → As (place_at w u)
       → As (place_at (after w x) u)

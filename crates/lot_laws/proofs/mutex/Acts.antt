@@ -154,7 +154,7 @@ module _ (w : State) (t m : ℕ) (inductive : IsInductive w) (is_there : t < len
 
     -- out of it, with nobody in hand
     pub goes_out_at : (location_at (place_at w t) m).inside ≡ Some Main
-        → (location_at (place_at w t) m).carries ≡ None
+        → (location_at (place_at w t) m).has_taken ≡ None
         → (ds : List Deed) → AreLeaving ds → laws.AllNeeded r ds here t → (laws.after_all r ds here t).role t
         ≡ role_on p2 m
         → location_at p2 m ≡ record (location_at (place_at w t) m) { inside = None }
@@ -183,7 +183,7 @@ module _ (w : State) (t m : ℕ) (inductive : IsInductive w) (is_there : t < len
         (woken : (u : ℕ) (b : Bool) → hand_at (place_at w u) m ≡ hand t b → IsWokenAt w t m Normal
         (place_at w u))
         → (location_at (place_at w t) m).inside ≡ Some Main
-        → (location_at p2 m).inside ≡ None → (location_at p2 m).carries ≡ None
+        → (location_at p2 m).inside ≡ None → (location_at p2 m).has_taken ≡ None
         → (location_at p2 m).stands ≡ (location_at (place_at w t) m).stands
         → (location_at p2 m).waits ≡ (location_at (place_at w t) m).waits
         → (location_at p2 m).hand ≡ (if is_thread t (taker (place_at w t)) then None

@@ -31,7 +31,7 @@ locked_by l (Some k) h = ap Some (eqb-true k l h)
 -- ---------------------------------------------------------------- a thread that has a waiter in its hand
 
 -- the thread owns the mutex, or is in a plain unlock
-mutex_owner : (at : MutexPlace) → (mutex_profile at).carries ≡ Some false
+mutex_owner : (at : MutexPlace) → (mutex_profile at).has_taken ≡ Some false
     → ((mutex_profile at).role.claims ≡ Some (Has Exclusive)) ⊎
     ((k : ℕ) (r : ℕ → Rights) → ReleasesFairly (call_state (Mutex k at) r).purpose k → ⊥)
 mutex_owner (mutex.HandOff bumps (hand_off.Store any none_left)) h = inl refl
@@ -57,22 +57,22 @@ module _ (w : State) (l : ℕ) (sort : (rules_in w l).sort ≡ locks.Mutex) wher
   away k x e ne same = ne (sym e ∙ ap (λ j. (rules_in w j).sort) (eqb-true k l same) ∙ sort)
 
   only : (b : Bool) (x : Location) (d : Role) → (b ≡ true → ⊥)
-      → (if b then x else nowhere).carries ≡ Some false
+      → (if b then x else nowhere).has_taken ≡ Some false
       → (if b then d else idle).claims ≡ Some (Has Exclusive)
   only true x d none h = absurd (none refl)
   only false x d none h = absurd cc
 
   owner : (p : Place) (r : ℕ → Rights) → FitsItsLock w p → beside_of p ≢ Some l
       → ReleasesFairly (call_state p r).purpose l
-      → (location_at p l).carries ≡ Some false
+      → (location_at p l).has_taken ≡ Some false
       → (role_on p l).claims ≡ Some (Has Exclusive)
   owner Idle r fits apart fairly h = absurd cc
   owner (Mutex k at) r fits apart fairly h = by_test (k == l) refl _ _ (mutex_owner at) h
     where
       by_test : (b : Bool) → (k == l) ≡ b → (x : Location) (d : Role)
-          → (x.carries ≡ Some false → (d.claims ≡ Some (Has Exclusive)) ⊎
+          → (x.has_taken ≡ Some false → (d.claims ≡ Some (Has Exclusive)) ⊎
           ((k : ℕ) (r : ℕ → Rights) → ReleasesFairly (call_state (Mutex k at) r).purpose k → ⊥))
-          → (if b then x else nowhere).carries ≡ Some false
+          → (if b then x else nowhere).has_taken ≡ Some false
           → (if b then d else idle).claims ≡ Some (Has Exclusive)
       by_test false e x d own h = absurd cc
       by_test true e x d own h = elim (own h) [
@@ -90,7 +90,7 @@ module _ (w : State) (l : ℕ) (sort : (rules_in w l).sort ≡ locks.Mutex) wher
     where
       two : (b : Bool) → (k == l) ≡ b → (c : Bool) → is_lock l (mutex_beside at) ≡ c
           → (x y : Location) (d e : Role)
-          → (if b then x else if c then y else nowhere).carries ≡ Some false
+          → (if b then x else if c then y else nowhere).has_taken ≡ Some false
           → (if b then d else if c then e else idle).claims ≡ Some (Has Exclusive)
       two true e c f x y d g h = absurd (away k locks.Condvar fits.sort (λ i. cc) e)
       two false e false f x y d g h = absurd cc
@@ -103,10 +103,10 @@ module _ (w : State) (h : IsWorld w) (l : ℕ) (sort : (rules_in w l).sort ≡ l
   -- the mutex is owned while somebody is in a hand
   pub in_hand : (t : ℕ) (x : Taken) → (lock_state w l).taken t ≡ Some x → (lock_state w l).exclusive ≢ None
   in_hand t x e =
-      let carries = h.inductive.stands.hands.taken x.by t l false (taken_held (place_at w t) x.by l x.want e)
+      let has_taken = h.inductive.stands.hands.taken x.by t l false (taken_held (place_at w t) x.by l x.want e)
       in
       let claims = owner w l sort (place_at w x.by) _ (h.inductive.stands.calls x.by) (fairly.apart x.by)
-      (fairly.calls x.by) carries in
+      (fairly.calls x.by) has_taken in
       let own : (lock_state w l).exclusive ≡ Some x.by = (h.inductive.sites.site l).held x.by (Has Exclusive)
       claims in
       λ none. (let f : ◌≡◌ {A = Option ℕ} (Some x.by) None = sym own ∙ none in cc)

@@ -21,7 +21,7 @@ mutex_sort k e = ap (λ (r : Rules). r.sort) (mutex_rules k e)
 
 -- ---------------------------------------------------------------- nobody brings it waiters
 
-mutex_sets : (at : MutexPlace) → (profile (Mutex 0 at)).role.sets ≡ false
+mutex_sets : (at : MutexPlace) → (profile (Mutex 0 at)).role.bit_pending ≡ false
 mutex_sets (mutex.Lock e r lock.First) = refl
 mutex_sets (mutex.Lock e r lock.Load) = refl
 mutex_sets (mutex.Lock e r (lock.Decide seen)) = refl
@@ -51,11 +51,11 @@ module _ (w : State) (l : ℕ) (sort : (rules_in w l).sort ≡ locks.Mutex) wher
   away : (k : ℕ) (x : locks.Sort) → (rules_in w k).sort ≡ x → x ≢ locks.Mutex → (k == l) ≡ true → ⊥
   away k x e ne same = ne (sym e ∙ ap (λ j. (rules_in w j).sort) (eqb-true k l same) ∙ sort)
 
-  by_test : (b : Bool) (d : Role) → (b ≡ true → d.sets ≡ false) → (if b then d else idle).sets ≡ false
+  by_test : (b : Bool) (d : Role) → (b ≡ true → d.bit_pending ≡ false) → (if b then d else idle).bit_pending ≡ false
   by_test true d h = h refl
   by_test false d h = refl
 
-  place_sets : (p : Place) → FitsItsLock w p → beside_of p ≢ Some l → (role_on p l).sets ≡ false
+  place_sets : (p : Place) → FitsItsLock w p → beside_of p ≢ Some l → (role_on p l).bit_pending ≡ false
   place_sets Idle fits apart = refl
   place_sets (Mutex k at) fits apart = by_test (k == l) _ (λ e. mutex_sets at)
   place_sets (RwLock k a at) fits apart = by_test (k == l) _ (λ e. absurd (let f : false ≡ true = sym
@@ -67,7 +67,7 @@ module _ (w : State) (l : ℕ) (sort : (rules_in w l).sort ≡ locks.Mutex) wher
     where
       two : (b : Bool) → (k == l) ≡ b → (c : Bool) → is_lock l (mutex_beside at) ≡ c
           → (if b then (profile (Condvar k at)).role else if c then (profile_at_mutex
-          (Condvar k at)).role else idle).sets ≡ false
+          (Condvar k at)).role else idle).bit_pending ≡ false
       two true e c f = absurd (away k locks.Condvar fits.sort (λ g. cc) e)
       two false e false f = refl
       two false e true f = absurd (apart (locked_by l (mutex_beside at) f))
@@ -96,8 +96,8 @@ module _ (w : State) (s : Step) (h : IsWorld w) (l : ℕ) (one_owner : is_mutex 
             | inl clear ↦ elim ((h.inductive.sites.site l).parked lets.waiter) [
               | inl set ↦ (let e : false ≡ true = sym clear ∙ (ap (λ x. parked_in x (word_at w l)) (sym sort)
                   ∙ set) in cc)
-              | inr sets ↦ (let e : false ≡ true = sym (place_sets w l sort (place_at w sets.0)
-                  (h.inductive.stands.calls sets.0) (fairly.apart sets.0)) ∙ sets.1 in cc)
+              | inr bit_pending ↦ (let e : false ≡ true = sym (place_sets w l sort (place_at w bit_pending.0)
+                  (h.inductive.stands.calls bit_pending.0) (fairly.apart bit_pending.0)) ∙ bit_pending.1 in cc)
             ]
             | inr empty ↦ lets.waiter empty
           ]

@@ -8,7 +8,7 @@ use Imports.{LockCase, Queued, Rules, Needs, Pend, Settle, Leave, Convert, Park,
 use Imports.{TakeAside, TakePicked, Wake, HandOff, Rollback, OfOnce, OfCondvar, SeeOwner, IsLockState}
 use Imports.{after_case, left_after, putting, LocksState, AreLockStates, Event, Nothing, AtLock, Moves, Does}
 use Imports.{GoesOn, MayHappen, Turned, joined_by, locks_after, rules_at, needs_of}
-use Rattle.spec_locks.specs.declared.calls.Turn as turn
+use Rattle.spec_locks.specs.declared.calls.Turn.TheVariants as turn
 use Rattle.spec_locks.specs.Locks as locks
 use Rattle.spec_locks.specs.Locks.{Mutex, Enter}
 use Rattle.spec_locks.specs.Locks.{Late}
@@ -152,12 +152,12 @@ module _ (w v : LocksState) (t l : ℕ) (o : Outcome) (all : AreLockStates w) (m
   same e = subst (Gets (w.locks l)) (sym e) (inl free)
 
   by_turn : (x : Turn) → Does w t x o v → Gets (w.locks l) (v.locks l)
-  by_turn (turn.TheVariants.Begin c) d = same (d.locks l)
-  by_turn turn.TheVariants.Go d = goes d
-  by_turn turn.TheVariants.Spin d = goes d.goes
-  by_turn turn.TheVariants.Late d = same (d.locks l)
-  by_turn turn.TheVariants.Ok d = goes d.goes
-  by_turn turn.TheVariants.Err d = goes d.goes
+  by_turn (turn.Begin c) d = same (d.locks l)
+  by_turn turn.Go d = goes d
+  by_turn turn.Spin d = goes d.goes
+  by_turn turn.Late d = same (d.locks l)
+  by_turn turn.Ok d = goes d.goes
+  by_turn turn.Err d = goes d.goes
 
   pub gets_owner : (x : Turn) → Turned w t x o v → Gets (w.locks l) (v.locks l)
   gets_owner x (inl d) = by_turn x d.1

@@ -136,8 +136,8 @@ module _ (w : State) (l : ℕ) (inductive : IsInductive w) (rules : rules_in w l
     same_one : member x.thread (x ∷ []) ≡ true
     same_one = rw (same x.thread) refl
 
-    pub first_goes : (location_at (place_at w t) l).carries ≡ None → location_at p2 l ≡ record
-        (after_take t (member t (x ∷ [])) (location_at (place_at w t) l)) { carries = Some false }
+    pub first_goes : (location_at (place_at w t) l).has_taken ≡ None → location_at p2 l ≡ record
+        (after_take t (member t (x ∷ [])) (location_at (place_at w t) l)) { has_taken = Some false }
         → taken_at p2 l
         ≡ (if member t (x ∷ []) then taken_at (next_place (place_at w t) (TakenBy t)) l else taken_at
         (place_at w t) l)
@@ -201,7 +201,7 @@ module _ (w : State) (t l u : ℕ) (inductive : IsInductive w) (rules : rules_in
     λ h. let a = only_one y x h.0 in λ j. Some (record { thread = sym a.0 j; want = sym a.1 j }),
   )
 
--- ---------------------------------------------------------------- it is handed over
+-- ---------------------------------------------------------------- the mutex is handed over
 
 module _ (r : Rules) (l : ℕ) (n : Base) (word : ℕ) (o : Owners) (m s : List Waiter) (p : ℕ → Place) (one : ℕ
     → Type 0)

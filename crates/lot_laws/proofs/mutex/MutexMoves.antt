@@ -116,7 +116,7 @@ decides l e retries was false one = (refl, decides_put e retries was)
 decides l e retries was true true = (refl, decides_put e retries was)
 decides l e retries was true false = (refl, goes_in refl refl refl (λ r s t free. free))
 
--- but for the store of a hand-off
+-- all moves but the store of a hand-off
 abbrev pub StoresNothing : MutexPlace → Type 0
 StoresNothing (HandOff bumps (hand_off.Store any none_left)) = ⊥
 StoresNothing p = Unit {0}
@@ -204,7 +204,7 @@ mutex_acts_move l (Unlock unlock.Take) timed h = (
     was = refl;
     deeds = λ whom any none_left. refl;
     goes = λ any none_left. by_test (λ n. location_next (in_unlock n) ≡ record (inside_of Main) {
-      carries =
+      has_taken =
           in_hand any false;
     }) none_left (At (unlock.Clear any)) (At (unlock.Leave any)) refl refl;
     may = λ r s t whom any none_left first some left nobody. (

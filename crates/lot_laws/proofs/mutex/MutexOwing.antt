@@ -9,8 +9,8 @@ use Imports.{mutex_goes, mutex_does, State, place_at, word_at, queue_at, is_ther
 use Imports.{IsMutexWord, IsInductive, line_owed, profile, mutex_act, mutex_next, line_let_in, tells_of, Line}
 use Imports.{Second}
 use Rattle.core_base.specs.declared.notes.Note.TheVariants as note
-use Rattle.spec_locks.specs.declared.calls.MutexCall as mutex_call
-use Rattle.spec_locks.specs.declared.outcomes.Outcome as outcome
+use Rattle.spec_locks.specs.declared.calls.MutexCall.TheVariants as mutex_call
+use Rattle.spec_locks.specs.declared.outcomes.Outcome.TheVariants as outcome
 use Rattle.steps_mutex.specs.declared.places.MutexPlace.TheVariants.{Bump}
 use Rattle.steps_mutex.specs.declared.places.MutexPlace.TheVariants.{HandOff}
 use Rattle.steps_mutex.specs.declared.lock.LockAt.TheVariants as lock
@@ -18,7 +18,7 @@ use Rattle.steps_mutex.specs.declared.unlock.UnlockAt.TheVariants as unlock
 use Rattle.steps_mutex.specs.declared.hand_off.HandOffAt.TheVariants as hand_off
 use Rattle.steps_mutex.specs.declared.lock.Entry.TheVariants as entries
 use Rattle.steps_base.specs.declared.acts.Next.TheVariants as next
-use Rattle.spec_locks.specs.declared.outcomes.Answer as answer
+use Rattle.spec_locks.specs.declared.outcomes.Answer.TheVariants as answer
 use Rattle.steps_mutex.specs.MutexSteps.{in_lock, looked}
 use Rattle.lot_laws.proofs.machine.AtPlaces.{coded_for, owns}
 use Rattle.lot_laws.proofs.promises.RowPromises.{LetsIn, RowSees, RowOwesNext, IsLateNext, Befalls}
@@ -58,7 +58,7 @@ locked_within k e r (next.End a) m h = absurd cc
 
 -- a call that ends owes nothing
 ended : (word k : ℕ) (at : MutexPlace) (a : _)
-    → RowOwesNext locks.Mutex k word (mutex_row at) (outcome.TheVariants.End a) (profile Idle)
+    → RowOwesNext locks.Mutex k word (mutex_row at) (outcome.End a) (profile Idle)
 ended word k at a = record { since = λ m h. absurd cc; sees = λ m s o. absurd cc }
 
 -- a thread that goes on inside the section, or on its way to it, owes on the main line
@@ -77,7 +77,7 @@ within word k at o q owes inside = record {
 seen_parked : (word k : ℕ) (at : MutexPlace) (q : Place) → LetsIn locks.Mutex k (mutex_row at)
     → is_parked word ≡ true
     → line_let_in locks.Mutex (Some ((mutex_row at).purpose k)) ≡ Main → (profile q).owes ≡ Some Main
-    → RowOwesNext locks.Mutex k word (mutex_row at) outcome.TheVariants.Step (profile q)
+    → RowOwesNext locks.Mutex k word (mutex_row at) outcome.Step (profile q)
 seen_parked word k at q lets parked main owes = record {
   since = λ m h. inr (let e : Main ≡ m = some_same Main m (sym owes ∙ h)
       in ((lets, main ∙ e, subst (λ x. tells_of locks.Mutex x word ≡ true) e parked), refl));
@@ -118,10 +118,10 @@ module _ (w : State) (t : ℕ) (inductive : IsInductive w) (k : ℕ) where
     where
       either : (b : Bool) → is_parked (word_at w k) ≡ b
           → OwesNext k (word_at w k) (Unlock unlock.Subtract)
-          (in_unlock (if b then next.At unlock.Enter else next.End answer.TheVariants.Ok))
+          (in_unlock (if b then next.At unlock.Enter else next.End answer.Ok))
       either true e = seen_parked (word_at w k) k (Unlock unlock.Subtract) (Mutex k (Unlock unlock.Enter))
           (inl refl) e refl refl
-      either false e = ended (word_at w k) k (Unlock unlock.Subtract) answer.TheVariants.Ok
+      either false e = ended (word_at w k) k (Unlock unlock.Subtract) answer.Ok
   from_unlock unlock.Enter = within (word_at w k) k (Unlock unlock.Enter) _ (Mutex k (Unlock unlock.Take))
       refl refl
   from_unlock unlock.Take = either (length (drop 1 (queue_at w (2 * k))) == 0)
@@ -139,7 +139,7 @@ module _ (w : State) (t : ℕ) (inductive : IsInductive w) (k : ℕ) where
           refl
   from_unlock (unlock.Clear any) = within (word_at w k) k (Unlock (unlock.Clear any)) _
       (Mutex k (Unlock (unlock.Leave any))) refl refl
-  from_unlock (unlock.Leave any) = ended (word_at w k) k (Unlock (unlock.Leave any)) answer.TheVariants.Ok
+  from_unlock (unlock.Leave any) = ended (word_at w k) k (Unlock (unlock.Leave any)) answer.Ok
 
   from_hand_off : (b : Bool) (a : HandOffAt)
       → OwesNext k (word_at w k) (HandOff b a)
@@ -160,7 +160,7 @@ module _ (w : State) (t : ℕ) (inductive : IsInductive w) (k : ℕ) where
     ]);
   }
   from_hand_off false (hand_off.Leave any) = ended (word_at w k) k (HandOff false (hand_off.Leave any))
-      answer.TheVariants.Ok
+      answer.Ok
 
   pub mutex_owes_next : (at : MutexPlace) → place_at w t ≡ Mutex k at
       → OwesNext k (word_at w k) at (mutex_next at (reply_to w t (mutex_act k at)))
@@ -170,16 +170,16 @@ module _ (w : State) (t : ℕ) (inductive : IsInductive w) (k : ℕ) where
   mutex_owes_next TryLock is = either (is_locked (word_at w k))
     where
       either : (b : Bool)
-          → OwesNext k (word_at w k) TryLock (if b then next.End answer.TheVariants.No else next.End
-          answer.TheVariants.Yes)
-      either true = ended (word_at w k) k TryLock answer.TheVariants.No
-      either false = ended (word_at w k) k TryLock answer.TheVariants.Yes
+          → OwesNext k (word_at w k) TryLock (if b then next.End answer.No else next.End
+          answer.Yes)
+      either true = ended (word_at w k) k TryLock answer.No
+      either false = ended (word_at w k) k TryLock answer.Yes
   mutex_owes_next (Unlock a) is = from_unlock a
   mutex_owes_next UnlockFair is = either (word_at w k == 1) refl
     where
       either : (b : Bool) → (word_at w k == 1) ≡ b → OwesNext k (word_at w k) UnlockFair
           (looked false (not b))
-      either true e = ended (word_at w k) k UnlockFair answer.TheVariants.Ok
+      either true e = ended (word_at w k) k UnlockFair answer.Ok
       either false e = seen_parked (word_at w k) k UnlockFair (Mutex k (HandOff false hand_off.Enter))
           (inl refl) (beside_owner UnlockFair is (owns w inductive t k UnlockFair is refl) e) refl refl
   mutex_owes_next Bump is = either (is_parked (word_at w k)) refl
@@ -187,20 +187,20 @@ module _ (w : State) (t : ℕ) (inductive : IsInductive w) (k : ℕ) where
       either : (b : Bool) → is_parked (word_at w k) ≡ b → OwesNext k (word_at w k) Bump (looked true b)
       either true e = seen_parked (word_at w k) k Bump (Mutex k (HandOff true hand_off.Enter))
           (inl (refl, refl)) e refl refl
-      either false e = ended (word_at w k) k Bump answer.TheVariants.Ok
+      either false e = ended (word_at w k) k Bump answer.Ok
   mutex_owes_next (HandOff b a) is = from_hand_off b a
 
 -- ---------------------------------------------------------------- the other turns
 
 -- a call begins before it owes anything
 pub mutex_first_owes : (fair : Bool) (c : MutexCall) → (mutex_row (mutex_first fair c)).owes ≡ None
-mutex_first_owes fair mutex_call.TheVariants.Lock = refl
-mutex_first_owes fair mutex_call.TheVariants.LockTimed = refl
-mutex_first_owes fair mutex_call.TheVariants.TryLock = refl
-mutex_first_owes true mutex_call.TheVariants.Unlock = refl
-mutex_first_owes false mutex_call.TheVariants.Unlock = refl
-mutex_first_owes fair mutex_call.TheVariants.UnlockFair = refl
-mutex_first_owes fair mutex_call.TheVariants.Bump = refl
+mutex_first_owes fair mutex_call.Lock = refl
+mutex_first_owes fair mutex_call.LockTimed = refl
+mutex_first_owes fair mutex_call.TryLock = refl
+mutex_first_owes true mutex_call.Unlock = refl
+mutex_first_owes false mutex_call.Unlock = refl
+mutex_first_owes fair mutex_call.UnlockFair = refl
+mutex_first_owes fair mutex_call.Bump = refl
 
 -- a thread whose time is up is then awake, inside the section of the line where it slept
 pub mutex_late : (k : ℕ) (at : MutexPlace) (m : Line) → (mutex_row at).late_line ≡ Some m

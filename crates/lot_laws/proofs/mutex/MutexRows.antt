@@ -3,7 +3,7 @@ use Rattle.lot_laws.proofs.Imports
 use Imports.{ℕ, Bool, true, false, if◌then◌else◌, not, ◌≡◌, ◌≢◌, ◌+◌, ◌*◌, inl, inr, refl, One, Sleep, LetsIn}
 use Imports.{is_acting, Entry, MutexPlace, Lock, LockAt, UnlockAt, mutex_row, lock_row, mutex_act, unlock_act}
 use Imports.{mutex_promises}
-use Rattle.core_base.specs.declared.ops.Op as op
+use Rattle.core_base.specs.declared.ops.Op.TheVariants as op
 use Rattle.steps_base.specs.declared.acts.Act.TheVariants as act
 use Rattle.steps_mutex.specs.declared.lock.Entry.TheVariants as entries
 use Rattle.steps_mutex.specs.declared.lock.LockAt.TheVariants as lock
@@ -27,8 +27,8 @@ shut l entries.Bump r at (inl h) = let f : true ≡ false = h.1 in cc
 shut l e r at (inr h) = let f = h.0 in cc
 
 pub decided_awake : (l seen : ℕ) (is_owned is_one : Bool)
-    → (if not is_owned then act.Word l (op.TheVariants.Exchange seen (seen + 1)) else if is_one
-    then act.Word l (op.TheVariants.Exchange 1 3) else act.Enter (One (2 * l)))
+    → (if not is_owned then act.Word l (op.Exchange seen (seen + 1)) else if is_one
+    then act.Word l (op.Exchange 1 3) else act.Enter (One (2 * l)))
     ≢ Sleep
 decided_awake l seen false is_one e = cc
 decided_awake l seen true true e = cc

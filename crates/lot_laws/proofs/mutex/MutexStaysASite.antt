@@ -164,7 +164,7 @@ module _ (w : State) (t l : ℕ) (at : MutexPlace) (inductive : IsInductive w) (
   deeds_of who told = mutex_deeds at who told
 
   abbrev case_at : Option ℕ → Reply → Option locks.LockCase
-  case_at who told = case_of (mutex_row at).carries (deeds_of who told)
+  case_at who told = case_of (mutex_row at).has_taken (deeds_of who told)
 
   -- ---------------------------------------------------------------- each act
 
@@ -183,7 +183,7 @@ module _ (w : State) (t l : ℕ) (at : MutexPlace) (inductive : IsInductive w) (
     pub goes : Goes w (Then q y) l (acts t (deeds_of whom (reply_to w t y)) ++ claims_at at whom)
     pub tells : CallFollows r here.lock t l (mutex_row at) (deeds_of whom (reply_to w t y))
         (next_row (mutex_next at (reply_to w t y)))
-    pub others : WakesOwn (mutex_row at).carries y (case_at whom (reply_to w t y)) ⊎ HandsOn q y whom
+    pub others : WakesOwn (mutex_row at).has_taken y (case_at whom (reply_to w t y)) ⊎ HandsOn q y whom
     -- The thread is in nobody's hand after the step.
     pub unheld : (location_then (mutex_move at) (reply_to w t y)).hand ≡ None
 
@@ -191,7 +191,7 @@ module _ (w : State) (t l : ℕ) (at : MutexPlace) (inductive : IsInductive w) (
   plainly : {q : Place} {y : Act} (who : Option ℕ) → claims_at at who ≡ []
       → Goes w (Then q y) l (acts t (deeds_of who (reply_to w t y))) → MayReply r here t at who
       (reply_to w t y) → reply_to w t y ≢ Late
-      → (location_then (mutex_move at) (reply_to w t y)).hand ≡ None → WakesOwn (mutex_row at).carries y
+      → (location_then (mutex_move at) (reply_to w t y)).hand ≡ None → WakesOwn (mutex_row at).has_taken y
       (case_at who (reply_to w t y)) ⊎ HandsOn q y who → GoesFrom q y
   plainly {q = q} {y = y} who none goes hears now unheld others = record {
     whom = who;
@@ -214,7 +214,7 @@ module _ (w : State) (t l : ℕ) (at : MutexPlace) (inductive : IsInductive w) (
       t
       → (location_of (mutex_move at)).hand ≡ None → location_then (mutex_move at) (Value (word_at w l))
       ≡ location_of (mutex_move at)
-      → WakesOwn (mutex_row at).carries (act.Word l op) (case_at None (Value (word_at w l)))
+      → WakesOwn (mutex_row at).has_taken (act.Word l op) (case_at None (Value (word_at w l)))
       ⊎ HandsOn (place_at w t) (act.Word l op) None
       → GoesFrom (place_at w t) (act.Word l op)
   on_word op e none may by_owner free goes others = plainly None none
@@ -253,11 +253,11 @@ module _ (w : State) (t l : ℕ) (at : MutexPlace) (inductive : IsInductive w) (
           (Value (word_at w l)) p2 f ∙ goes ∙ sym was
 
   -- a thread that it has in hand it has taken, or handed the mutex
-  held_so : (any c b : Bool) → (location_of (mutex_move at)).carries ≡ in_hand any c → (u : ℕ)
+  held_so : (any c b : Bool) → (location_of (mutex_move at)).has_taken ≡ in_hand any c → (u : ℕ)
       → hand_at (place_at w u) l ≡ hand t b → b ≡ c
-  held_so any c b carries u held =
-      by_any any (sym (ap (λ (y : Location). y.carries) (location_here l (place_at w t) own
-      ∙ location_is w t l inductive there own r refl (mutex_move at) same_row) ∙ carries)
+  held_so any c b has_taken u held =
+      by_any any (sym (ap (λ (y : Location). y.has_taken) (location_here l (place_at w t) own
+      ∙ location_is w t l inductive there own r refl (mutex_move at) same_row) ∙ has_taken)
       ∙ inductive.stands.hands.taken t u l b held)
     where
       by_any : (any : Bool) → in_hand any c ≡ Some b → b ≡ c
@@ -268,10 +268,10 @@ module _ (w : State) (t l : ℕ) (at : MutexPlace) (inductive : IsInductive w) (
   calls_it u = calls_mutex_at w l (place_at w u) (inductive.stands.calls u) rules_are
 
   -- each of them tries again, or has the mutex
-  tries_again : (any : Bool) → (location_of (mutex_move at)).carries ≡ in_hand any false → (u : ℕ) (b : Bool)
+  tries_again : (any : Bool) → (location_of (mutex_move at)).has_taken ≡ in_hand any false → (u : ℕ) (b : Bool)
       → hand_at (place_at w u) l ≡ hand t b → IsWokenAt w t l Normal (place_at w u)
-  tries_again any carries u b held = let k : IsHeldThere l t (place_at w u) =
-      held_there (place_at w u) t l (calls_it u) (held ∙ ap (hand t) (held_so any false b carries u held)) in
+  tries_again any has_taken u b held = let k : IsHeldThere l t (place_at w u) =
+      held_there (place_at w u) t l (calls_it u) (held ∙ ap (hand t) (held_so any false b has_taken u held)) in
       record {
         lets = tries l t (place_at w u) k;
         goes = k.woken.location;
@@ -279,10 +279,10 @@ module _ (w : State) (t l : ℕ) (at : MutexPlace) (inductive : IsInductive w) (
         fits = k.woken.fits tt w (inductive.stands.calls u);
       }
 
-  has_it : (any : Bool) → (location_of (mutex_move at)).carries ≡ in_hand any true → (u : ℕ) (b : Bool)
+  has_it : (any : Bool) → (location_of (mutex_move at)).has_taken ≡ in_hand any true → (u : ℕ) (b : Bool)
       → hand_at (place_at w u) l ≡ hand t b → IsWokenAt w t l HandOffNote (place_at w u)
-  has_it any carries u b held = let k : WasGivenThere l t (place_at w u) =
-      given_there (place_at w u) t l (calls_it u) (held ∙ ap (hand t) (held_so any true b carries u held)) in
+  has_it any has_taken u b held = let k : WasGivenThere l t (place_at w u) =
+      given_there (place_at w u) t l (calls_it u) (held ∙ ap (hand t) (held_so any true b has_taken u held)) in
       record {
         lets = has_now l t t (place_at w u) k;
         goes = k.told.location;
@@ -306,7 +306,7 @@ module _ (w : State) (t l : ℕ) (at : MutexPlace) (inductive : IsInductive w) (
     works op e g = on_word op e (no_claims at None nothing) (g.may r here t)
         (owned_by r (deeds_of None (Value (word_at w l))) here t (g.deeds (word_at w l))) g.free
         (g.goes (word_at w l))
-        (inl (calm_case (mutex_row at).carries (deeds_of None (Value (word_at w l)))
+        (inl (calm_case (mutex_row at).has_taken (deeds_of None (Value (word_at w l)))
         (word_calm (deeds_of None (Value (word_at w l))) (g.deeds (word_at w l)))))
 
     -- the first of the line, if there is one
@@ -326,10 +326,10 @@ module _ (w : State) (t l : ℕ) (at : MutexPlace) (inductive : IsInductive w) (
           (first_goes w l inductive rules_are y rest e t there p2 (own_alike l (place_at w t) p2 own f.of)
           f.fits
           line (first_sleeps w l inductive rules_are y rest e t apart (ap (λ (z : Location). z.inside)
-          is_now)) (ap (λ (z : Location). z.carries) is_now)
+          is_now)) (ap (λ (z : Location). z.has_taken) is_now)
           (location_here l p2 f.of ∙ first.is_then w t l inductive there own r refl (mutex_move at) same_row
           (mutex_hears at) take_deeds line g (Some y.thread) true (length rest == 0) f
-          ∙ sym (λ j. record (after_take t (not_self j) (is_now j)) { carries = Some false }))
+          ∙ sym (λ j. record (after_take t (not_self j) (is_now j)) { has_taken = Some false }))
           (first.hand_then w t l inductive there own r refl (mutex_move at) same_row (mutex_hears at)
           take_deeds
           line g (Some y.thread) true (length rest == 0) f
@@ -374,11 +374,11 @@ module _ (w : State) (t l : ℕ) (at : MutexPlace) (inductive : IsInductive w) (
         (mutex_move at) same_row (mutex_hears at) (Mutex l at) brief key g.0 g.1)
     by_act (act.Leave keys wakes) e g can = elim g.1 [
       | inl h ↦ go_on None (act.Leave keys wakes) (out_of w t l inductive shape there lt own (mutex_move at)
-          same_row (mutex_hears at) (Mutex l at) brief Main keys wakes g.0 h (tries_again h.any h.carries))
+          same_row (mutex_hears at) (Mutex l at) brief Main keys wakes g.0 h (tries_again h.any h.has_taken))
       | inr h ↦ go_on None (act.Leave keys wakes) (tells_all w t l inductive shape there lt own
           (mutex_move at)
           same_row (mutex_hears at) (Mutex l at) brief keys wakes g.0 h
-          (has_it h.any (ap (λ (y : Location). y.carries) h.was)))
+          (has_it h.any (ap (λ (y : Location). y.has_taken) h.was)))
     ]
     by_act act.Accept e g can = go_on None act.Accept (accepted w t l inductive shape there lt own
         (mutex_move at) same_row (mutex_hears at) (Mutex l at) brief g)
@@ -412,7 +412,7 @@ module _ (w : State) (t l : ℕ) (bumps none_left : Bool) (inductive : IsInducti
     now = lock_by w l (rules_in w l)
 
     bare_now : carried_at (place_at w t) l ≡ None
-    bare_now = ap (λ (y : Location). y.carries) (own_stance l (place_at w t) at_none is)
+    bare_now = ap (λ (y : Location). y.has_taken) (own_stance l (place_at w t) at_none is)
 
     lets_go : locks.handed t Exclusive None now.lock ≡ record now.lock { exclusive = None }
     lets_go = handed_is t (base_at w l) (owners_at w l) (queue_at w (2 * l)) (queue_at w (2 * l + 1))
@@ -486,7 +486,7 @@ module _ (w : State) (t l : ℕ) (bumps none_left : Bool) (inductive : IsInducti
         delivers w t l inductive (rw is refl)
             (Mutex l (HandOff bumps (hand_off.Leave true))) (state_after_hand_over w t (Mutex l at_one) l
             store)
-            (hand_over_told w t l) refl (ap (λ (y : Location). y.carries) (own_stance l (place_at w t) at_one
+            (hand_over_told w t l) refl (ap (λ (y : Location). y.has_taken) (own_stance l (place_at w t) at_one
             is)),
         ap (λ p. taken_at p l) is,
       );

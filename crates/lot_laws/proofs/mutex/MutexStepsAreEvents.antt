@@ -55,25 +55,25 @@ module _ (w : State) (t l : ℕ) (at : MutexPlace) (inductive : IsInductive w) (
   sort : (rules_in w l).sort ≡ locks.Mutex
   sort = sort_is w t l at inductive shape there lt is
 
-  carries : carried_at (place_at w t) l ≡ (mutex_row at).carries
-  carries = ap (λ (y : Location). y.carries) (own_stance l (place_at w t) at is)
+  has_taken : carried_at (place_at w t) l ≡ (mutex_row at).has_taken
+  has_taken = ap (λ (y : Location). y.has_taken) (own_stance l (place_at w t) at is)
 
   abbrev case : Option LockCase
-  case = case_of (mutex_row at).carries (mutex_deeds at kept.whom told)
+  case = case_of (mutex_row at).has_taken (mutex_deeds at kept.whom told)
 
   happened : IsEvent w afterwards t (event_by l case)
-  happened = happens w afterwards t l (mutex_row at).carries (mutex_deeds at kept.whom told)
+  happened = happens w afterwards t l (mutex_row at).has_taken (mutex_deeds at kept.whom told)
       (claims_at at kept.whom) inductive kept.goes (are_claims at kept.whom) kept.tells.one
-      (λ none. in_no_hand w inductive t l (λ h. none (sym carries ∙ h)))
+      (λ none. in_no_hand w inductive t l (λ h. none (sym has_taken ∙ h)))
 
   others : OthersFollow w afterwards t (event_by l case)
   others = elim kept.others [
     | inl own ↦ others_follow w afterwards t l case happened (hands_nothing w afterwards t l case happened
-        (mutex_row at).carries (mutex_act l at) case own)
+        (mutex_row at).has_taken (mutex_act l at) case own)
         (wakes_own w t l inductive (rw is refl) (next_place (Mutex l at) told) (λ e. let both : locks.Condvar
         ≡ locks.Mutex = sym e ∙ sort in cc) (Mutex l at) (mutex_act l at)
         (takes_here l (location (Mutex l at)) (mutex_act l at) (mutex_row_facts l at).line) case
-        (subst (λ h. WakesOwn h (mutex_act l at) case) (sym carries) own))
+        (subst (λ h. WakesOwn h (mutex_act l at) case) (sym has_taken) own))
     | inr on ↦ subst (λ c. OthersFollow w afterwards t (event_by l c)) (sym on.1)
         (hands_others w afterwards t l kept.whom (subst (λ c. IsEvent w afterwards t (event_by l c)) on.1
         happened)

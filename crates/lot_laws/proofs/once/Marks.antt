@@ -14,13 +14,13 @@ use Imports.{state_after_go, state_after_hand_over_by, state_after_late_on, stat
 use Imports.{state_after_taking, state_after_turn, unlocked, word_at, IsOwn, call_own, mutex_own, semaphore_own}
 use Imports.{set_all, both, lock_state, AreUnmarked, FitsItsLock, IsInductive, is_mutex, rules_in, site_of}
 use Rattle.core_base.specs.declared.ops.Op.TheVariants as op
-use Rattle.spec_locks.specs.declared.calls.Turn as turn
+use Rattle.spec_locks.specs.declared.calls.Turn.TheVariants as turn
 use Rattle.spec_locks.specs.declared.kinds.Kind.TheVariants as kinds
 use Rattle.spec_locks.specs.Locks as locks
 use Rattle.spec_locks.specs.Onces.{Done}
 use Rattle.steps_base.specs.declared.acts.Act.TheVariants as act
-use Rattle.steps_base.specs.declared.acts.Wakes as wakes
-use Rattle.steps_base.specs.declared.acts.TakeWhich as whom
+use Rattle.steps_base.specs.declared.acts.Wakes.TheVariants as wakes
+use Rattle.steps_base.specs.declared.acts.TakeWhich.TheVariants as whom
 use Rattle.steps_condvar.specs.declared.wait.WaitAt.TheVariants as wait
 use Rattle.steps_condvar.specs.declared.notify.NotifyAt.TheVariants as notify
 use Rattle.steps_once.specs.declared.give_up.GiveUpAt.TheVariants as give_up
@@ -160,19 +160,19 @@ performed w t p (act.Park k key check x) fine leaves l = either (holds check (wo
         else w).locks l (unlocked kinds.Mutex))
     either true = fine l
     either false = fine l
-performed w t p (act.Take key whom.TheVariants.First) fine leaves l = by_first (first_of (queue_at w key))
+performed w t p (act.Take key whom.First) fine leaves l = by_first (first_of (queue_at w key))
   where
     by_first : (o : Option ℕ) → Unmarked
         (get_or (state_after_taking (record w { queues = queues_without_first w.queues key }) t o).locks l
         (unlocked kinds.Mutex))
     by_first None = fine l
     by_first (Some u) = fine l
-performed w t p (act.Take key (whom.TheVariants.Picked start recursive)) fine leaves l = fine l
-performed w t p (act.Take key whom.TheVariants.All) fine leaves l = fine l
-performed w t p (act.Leave (One key) wakes.TheVariants.Nobody) fine leaves l = fine l
-performed w t p (act.Leave (One key) (wakes.TheVariants.All n)) fine leaves l = fine l
-performed w t p (act.Leave (Two first second) wakes.TheVariants.Nobody) fine leaves l = fine l
-performed w t p (act.Leave (Two first second) (wakes.TheVariants.All n)) fine leaves l = fine l
+performed w t p (act.Take key (whom.Picked start recursive)) fine leaves l = fine l
+performed w t p (act.Take key whom.All) fine leaves l = fine l
+performed w t p (act.Leave (One key) wakes.Nobody) fine leaves l = fine l
+performed w t p (act.Leave (One key) (wakes.All n)) fine leaves l = fine l
+performed w t p (act.Leave (Two first second) wakes.Nobody) fine leaves l = fine l
+performed w t p (act.Leave (Two first second) (wakes.All n)) fine leaves l = fine l
 performed w t p a fine leaves l = fine l
 
 -- ---------------------------------------------------------------- each place
@@ -310,8 +310,8 @@ module _ (w : State) (t : ℕ) (inductive : IsInductive w) (there : t < length w
     late None = fine
     late (Some key) = fine
 
-    closed : (succeeded : Bool) → can_turn w t (if succeeded then turn.TheVariants.Ok
-        else turn.TheVariants.Err)
+    closed : (succeeded : Bool) → can_turn w t (if succeeded then turn.Ok
+        else turn.Err)
         ≡ true → AreUnmarked (state_after_close w t succeeded)
     closed true can = let one = closes_one w t true can in gone_unmarked (closing w t there true one)
         (closing_inductive w t there true one inductive) fine t
@@ -319,12 +319,12 @@ module _ (w : State) (t : ℕ) (inductive : IsInductive w) (there : t < length w
         (closing_inductive w t there false one inductive) fine t
 
     turned : (x : Turn) → can_turn w t x ≡ true → AreUnmarked (state_after_turn w t x)
-    turned (turn.TheVariants.Begin c) can = fine
-    turned turn.TheVariants.Go can = gone_unmarked w inductive fine t
-    turned turn.TheVariants.Spin can = looked (respins_from (place_at w t)) refl
-    turned turn.TheVariants.Late can = late (late_key (place_at w t))
-    turned turn.TheVariants.Ok can = closed true can
-    turned turn.TheVariants.Err can = closed false can
+    turned (turn.Begin c) can = fine
+    turned turn.Go can = gone_unmarked w inductive fine t
+    turned turn.Spin can = looked (respins_from (place_at w t)) refl
+    turned turn.Late can = late (late_key (place_at w t))
+    turned turn.Ok can = closed true can
+    turned turn.Err can = closed false can
 
 pub unmarked_after : (w : State) (s : Step) → IsWellFormed w → IsInductive w → AreUnmarked w
     → AreUnmarked (after w s)

@@ -184,8 +184,8 @@ module _ (w : State) (t l : ℕ) (inductive : IsInductive w) (there : t < length
     then_at = next_place (place_at w t) (Took any true)
 
     bare : carried_at (place_at w t) l ≡ None
-    bare = nothing_at (place_at w t) l (of_single l (place_at w t) own) (λ y. y.carries) refl
-        (ap (λ (y : Location). y.carries) (is_now ∙ g.was))
+    bare = nothing_at (place_at w t) l (of_single l (place_at w t) own) (λ y. y.has_taken) refl
+        (ap (λ (y : Location). y.has_taken) (is_now ∙ g.was))
 
     nobody : HasTakenNobody (lock_state w l) t
     nobody = in_no_hand w inductive t l (λ h. let e : ◌≡◌ {A = Option Bool} None (Some false) = sym bare ∙ h
@@ -197,7 +197,7 @@ module _ (w : State) (t l : ℕ) (inductive : IsInductive w) (there : t < length
     follows : Followed (Took any true) then_at
     follows = followed any true all_hears
 
-    goes_then : location then_at ≡ record (inside_of Main) { carries = in_hand any false }
+    goes_then : location then_at ≡ record (inside_of Main) { has_taken = in_hand any false }
     goes_then = there_is w t l inductive there own r rules x same_row None (Took any true) then_at follows
         ∙ g.goes any true
 
@@ -214,14 +214,14 @@ module _ (w : State) (t l : ℕ) (inductive : IsInductive w) (there : t < length
         (sym (g.deeds any true))
         (all_goes w t l inductive own there then_at follows.of follows.fits many
         (ap (λ (y : Location). y.stands) (is_now ∙ g.was)) (ap (λ (y : Location). y.hand) (is_now
-        ∙ g.was)) (ap (λ (y : Location). y.carries) (is_now ∙ g.was)) r rules
+        ∙ g.was)) (ap (λ (y : Location). y.has_taken) (is_now ∙ g.was)) r rules
         (free_of (place_at w t) l (of_single l (place_at w t) own) (ap (λ (y : Location). y.hand) (is_now
         ∙ g.was))) (free_of then_at l (of_single l then_at follows.of)
         (ap (λ (y : Location). y.hand) goes_then))
         (ap (λ (y : Location). y.inside) goes_then ∙ sym (ap (λ (y : Location). y.inside) (is_now ∙ g.was)))
         (ap (λ (y : Location). y.stands) goes_then) (ap (λ (y : Location). y.hand) goes_then)
-        line sleeps (λ b h. some_in b (queue_at w (2 * l)) (sym (ap (λ (y : Location). y.carries) goes_then)
-        ∙ h)) (λ u h. ap (λ (y : Location). y.carries) goes_then ∙ all_in (queue_at w (2 * l)) u h)
+        line sleeps (λ b h. some_in b (queue_at w (2 * l)) (sym (ap (λ (y : Location). y.has_taken) goes_then)
+        ∙ h)) (λ u h. ap (λ (y : Location). y.has_taken) goes_then ∙ all_in (queue_at w (2 * l)) u h)
         (needed_by w t l inductive there own r rules x same_row None (Took any true) then_at follows
         (Case (OfOnce TakeAll) ∷ []) (g.deeds any true))
         (own_by w t l inductive there own r rules x same_row None (Took any true) then_at follows

@@ -40,7 +40,7 @@ role_is : (n : Next OncePlace) → role_next n ≡ (row_of (next_row n)).role
 role_is (next.At p) = refl
 role_is (next.End answer) = refl
 
--- ---------------------------------------------------------------- its word
+-- ---------------------------------------------------------------- the word
 
 -- a `Once` has no second line
 module _ (r : Rules) (s : Site) (t : ℕ) where
@@ -293,7 +293,7 @@ module _ (w : State) (t l : ℕ) (at : OncePlace) (inductive : IsInductive w) (s
 
   by_place : (p : OncePlace) → can_do w (once_act l p) ≡ true
       → Begins (locks_of w) (event_by l
-      (case_of (once_profile p).carries (once_deeds p (reply_to w t (once_act l p)))))
+      (case_of (once_profile p).has_taken (once_deeds p (reply_to w t (once_act l p)))))
       (outcome_of (once_does l (once_next p (reply_to w t (once_act l p)))))
   by_place (Look c again look.Load) h = looks_on (locks_of w) l (word_at w l) c again
       (course_of c (word_at w l))
@@ -316,7 +316,7 @@ module _ (w : State) (t l : ℕ) (at : OncePlace) (inductive : IsInductive w) (s
 
   -- the thread is told of its closure exactly where its run begins
   begins_so : can_do w (once_act l at) ≡ true
-      → Begins (locks_of w) (event_by l (case_of (once_profile at).carries
+      → Begins (locks_of w) (event_by l (case_of (once_profile at).has_taken
       (once_deeds at (reply_to w t (once_act l at)))))
       (outcome_of (once_does l (once_next at (reply_to w t (once_act l at)))))
   begins_so can = by_place at can

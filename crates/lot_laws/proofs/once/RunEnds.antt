@@ -14,7 +14,7 @@ use Imports.{once_profile, semaphore_profile}
 use Rattle.spec_locks.specs.Locks as locks
 use Rattle.spec_locks.specs.Purposes.{Purpose}
 use Rattle.spec_locks.specs.declared.calls.OnceCall.TheVariants as once_call
-use Rattle.spec_locks.specs.declared.calls.Turn as turn
+use Rattle.spec_locks.specs.declared.calls.Turn.TheVariants as turn
 use Rattle.spec_locks.specs.declared.outcomes.Outcome.TheVariants as told
 use Rattle.steps_base.specs.declared.acts.Act.TheVariants as act
 use Rattle.steps_base.specs.declared.acts.TakeWhich.TheVariants as whom
@@ -64,14 +64,14 @@ module _ (w : State) (t l : ℕ) (inductive : IsInductive w) (there : t < length
       here = closing_here w t there b one ∙ ap (λ p. next_place p (Closed b)) one.is
 
   by_turn : (x : Turn) → can_turn w t x ≡ true → turn_outcome w t x ≡ told.Step
-  by_turn (turn.TheVariants.Begin c) can = refl
-  by_turn turn.TheVariants.Go can = absurd (let f : false ≡ true = sym (ap (λ p. can_do w (act_of p)) one.is)
+  by_turn (turn.Begin c) can = refl
+  by_turn turn.Go can = absurd (let f : false ≡ true = sym (ap (λ p. can_do w (act_of p)) one.is)
       ∙ can in cc)
-  by_turn turn.TheVariants.Spin can = absurd (let f : false ≡ true =
+  by_turn turn.Spin can = absurd (let f : false ≡ true =
       sym (ap (λ p. is_some (respins_from p)) one.is) ∙ can in cc)
-  by_turn turn.TheVariants.Late can = refl
-  by_turn turn.TheVariants.Ok can = closes true
-  by_turn turn.TheVariants.Err can = closes false
+  by_turn turn.Late can = refl
+  by_turn turn.Ok can = closes true
+  by_turn turn.Err can = closes false
 
 pub run_goes_on : (w : State) (s : Step) → IsInductive w → (l : ℕ) → step_outcome w s ≢ told.NotNow
     → RunsClosure w s.thread l → parked_in (sort_at w l) (word_at w l) ≡ true → step_outcome w s ≡ told.Step
@@ -227,12 +227,12 @@ module _ (w : State) (t l : ℕ) (inductive : IsInductive w) (ran : RunsOrRan w 
 
   turn_takes : (x : Turn) → t < length w.places → can_turn w t x ≡ true → IsInductive (state_after_turn w t x)
       → IsInside (state_after_turn w t x) t l Main → TakesAll (state_after_turn w t x) t l
-  turn_takes (turn.TheVariants.Begin c) there can after inside = absurd (busy c can)
-  turn_takes turn.TheVariants.Go there can after inside = goes_takes w t l at.forced at.to at.is outside there
+  turn_takes (turn.Begin c) there can after inside = absurd (busy c can)
+  turn_takes turn.Go there can after inside = goes_takes w t l at.forced at.to at.is outside there
       after inside
-  turn_takes turn.TheVariants.Spin there can after inside = absurd (let f : false ≡ true =
+  turn_takes turn.Spin there can after inside = absurd (let f : false ≡ true =
       sym (ap (λ p. is_some (respins_from p)) at.is) ∙ can in cc)
-  turn_takes turn.TheVariants.Late there can after inside = absurd (let f : false ≡ true =
+  turn_takes turn.Late there can after inside = absurd (let f : false ≡ true =
       sym (ap (λ p. is_free_under w (late_key p)) at.is ∙ late_none at.to) ∙ can in cc)
     where
       late_none : (to : RunAt) → is_free_under w (late_key (runs_at l at.forced to)) ≡ false
@@ -241,8 +241,8 @@ module _ (w : State) (t l : ℕ) (inductive : IsInductive w) (ran : RunsOrRan w 
       late_none (run.Enter succeeded) = refl
       late_none (run.Take succeeded) = refl
       late_none (run.Leave succeeded any) = refl
-  turn_takes turn.TheVariants.Ok there can after inside = closed_takes true there can after inside
-  turn_takes turn.TheVariants.Err there can after inside = closed_takes false there can after inside
+  turn_takes turn.Ok there can after inside = closed_takes true there can after inside
+  turn_takes turn.Err there can after inside = closed_takes false there can after inside
 
 pub ran_takes : (w : State) (s : Step) → IsInductive w → IsInductive (after w s) → (l : ℕ)
     → RunsOrRan w s.thread l → (IsInside w s.thread l Main → ⊥) → IsInside (after w s) s.thread l Main

@@ -15,8 +15,8 @@ use Imports.{next_place, once_goes, rwlock_goes, condvar_goes, semaphore_goes, I
 use Imports.{opening, place_at, put, runs_closure, step_outcome, RunsClosure, call_at, call_state, lock_state}
 use Imports.{locks_of, sleeps, AreCondvars, AreCounted, IsInductive, RunsInClosures}
 use Rattle.std.proofs.Common.{eqb-true}
-use Rattle.spec_locks.specs.declared.calls.Turn as turn
-use Rattle.spec_locks.specs.declared.outcomes.Outcome as outcome
+use Rattle.spec_locks.specs.declared.calls.Turn.TheVariants as turn
+use Rattle.spec_locks.specs.declared.outcomes.Outcome.TheVariants as outcome
 use Rattle.steps_base.specs.declared.acts.Next.TheVariants as next
 use Rattle.steps_once.specs.declared.look.LookAt.TheVariants as look
 use Rattle.steps_once.specs.declared.give_up.GiveUpAt.TheVariants as give_up
@@ -212,7 +212,7 @@ stays_inside w s t l ne h = inside (place_at (after w s) t) (others_keep_it clos
         either true on own = (own, on)
         either false on own = absurd cc
 
--- ---------------------------------------------------------------- its call
+-- ---------------------------------------------------------------- the call of the thread
 
 -- a call that runs a closure
 abbrev IsCallOnce : Option Purpose → ℕ → Type 0
@@ -287,18 +287,18 @@ module _ (w : State) (s : Step) (o : Outcome) (step : IsTurn (locks_of w) s o (l
   starts l forced g is = runs_its_own v u l inside
       (by_outcome o told (ap (λ (c : CallState). c.purpose) (g.calls u)))
     where
-      told : o ≡ outcome.TheVariants.Closure (state_told (lock_state w l).phase)
+      told : o ≡ outcome.Closure (state_told (lock_state w l).phase)
       told = subst (λ e. Begins (locks_of w) e o) is g.begins
 
       inside : runs_closure (act_of (place_at v u)) ≡ true
-      inside = sym (step.0.runs (λ none. let f : outcome.TheVariants.Closure
-          (state_told (lock_state w l).phase) ≡ outcome.TheVariants.NotNow = sym told ∙ none in cc))
+      inside = sym (step.0.runs (λ none. let f : outcome.Closure
+          (state_told (lock_state w l).phase) ≡ outcome.NotNow = sym told ∙ none in cc))
           ∙ ap is_closure told
 
       may : MayDo (locks_of w) u l (OfOnce (Start forced)) (call_at w u).purpose
       may = subst (λ e. MayHappen (locks_of w) u e) is g.may
 
-      by_outcome : (x : Outcome) → x ≡ outcome.TheVariants.Closure (state_told (lock_state w l).phase)
+      by_outcome : (x : Outcome) → x ≡ outcome.Closure (state_told (lock_state w l).phase)
           → (call_at v u).purpose ≡ (calls_after (locks_of w) u g.event o u).purpose
           → IsCallOnce (call_at v u).purpose l
       by_outcome x e same_call = subst (λ p. IsCallOnce p l) (sym (same_call ∙ kept))
@@ -340,20 +340,20 @@ module _ (w : State) (s : Step) (o : Outcome) (step : IsTurn (locks_of w) s o (l
           ∙ ap (λ (x : LockState). x.phase) (put_here (lock_state w) l (once_after c (lock_state w l) u))
 
   by_turn : (x : Turn) → MayTurn (locks_of w) u x → Does (locks_of w) u x o (locks_of v) → RunsInClosures v
-  by_turn (turn.TheVariants.Begin c) may does t l e =
+  by_turn (turn.Begin c) may does t l e =
       went_on t l (sym (ap (λ (x : LockState). x.phase) (does.locks l)) ∙ e)
       (λ h. let call = calls_once w u l h in let f : None ≡ Some (CallsOnce l call.0) = sym may.idle ∙ call.1
       in cc)
-  by_turn turn.TheVariants.Late may does t l e =
+  by_turn turn.Late may does t l e =
       went_on t l (sym (ap (λ (x : LockState). x.phase) (does.locks l)) ∙ e)
       (λ h. let awake : false ≡ true = sym (ap (λ p. sleeps (act_of p)) (runs_one (place_at w u) h.1).is)
       ∙ may.asleep in cc)
-  by_turn turn.TheVariants.Go may does t l e = goes does (λ l h e. let f : true ≡ false = sym h.1
+  by_turn turn.Go may does t l e = goes does (λ l h e. let f : true ≡ false = sym h.1
       ∙ may.outside in cc) t l e
-  by_turn turn.TheVariants.Spin may does t l e = goes does.goes (λ l h e. let f : false ≡ true =
+  by_turn turn.Spin may does t l e = goes does.goes (λ l h e. let f : false ≡ true =
       sym (ap (λ p. is_some (respins_from p)) (runs_one (place_at w u) h.1).is) ∙ may in cc) t l e
-  by_turn turn.TheVariants.Ok may does t l e = goes does.goes (ends Finish (λ x e. cc) does) t l e
-  by_turn turn.TheVariants.Err may does t l e = goes does.goes (ends Fail (λ x e. cc) does) t l e
+  by_turn turn.Ok may does t l e = goes does.goes (ends Finish (λ x e. cc) does) t l e
+  by_turn turn.Err may does t l e = goes does.goes (ends Fail (λ x e. cc) does) t l e
 
   unchanged : locks_of v ≡ locks_of w → RunsInClosures v
   unchanged same_locks t l e =

@@ -25,11 +25,11 @@ use Rattle.spec_locks.specs.declared.calls.OnceCall.TheVariants as once_call
 use Rattle.steps_once.specs.declared.places.OncePlace.TheVariants.{Look}
 use Rattle.lot_laws.proofs.calls.Closures.{closes_one}
 use Rattle.lot_laws.proofs.calls.OwnPlace.{gone}
-use Rattle.core_base.specs.declared.ops.Op as op
+use Rattle.core_base.specs.declared.ops.Op.TheVariants as op
 use Rattle.core_base.specs.declared.wants.Want.TheVariants.{Wait}
-use Rattle.spec_locks.specs.declared.kinds.Kind as kind
-use Rattle.steps_base.specs.declared.acts.Act as act
-use Rattle.spec_locks.specs.declared.calls.Turn as turn
+use Rattle.spec_locks.specs.declared.kinds.Kind.TheVariants as kind
+use Rattle.steps_base.specs.declared.acts.Act.TheVariants as act
+use Rattle.spec_locks.specs.declared.calls.Turn.TheVariants as turn
 use Rattle.steps_mutex.specs.declared.lock.Entry.TheVariants as entries
 use Rattle.steps_mutex.specs.declared.places.MutexPlace.TheVariants.{Bump}
 use Rattle.steps_mutex.specs.declared.places.MutexPlace.TheVariants.{HandOff}
@@ -188,7 +188,7 @@ module _ (w : State) (t l : ℕ) (shape : IsWellFormed w) (inductive : IsInducti
       → owner_at (state_after_operation w t (Mutex l at) l f) l ≡ mutex_owner_after at t (word_at w l)
       (Some t)
   operated_owner at f lt = ap (λ x. x.owners.exclusive) (get_or-set_same w.locks l _
-      (unlocked kind.TheVariants.Mutex) lt) ∙ mutex_is at t (word_at w l) (owners_at w l)
+      (unlocked kind.Mutex) lt) ∙ mutex_is at t (word_at w l) (owners_at w l)
       ∙ ap (mutex_owner_after at t (word_at w l)) own
 
   still_own : (b : Bool) → (if b then Some t else Some t) ≡ Some t
@@ -200,14 +200,14 @@ module _ (w : State) (t l : ℕ) (shape : IsWellFormed w) (inductive : IsInducti
     decided_keeps : (retries : Bool) (s : ℕ) (a b : Bool)
         → ComesTo w t l
         (state_after_act w t (Mutex l (Lock entries.Bump retries (lock.Decide s))) (if not a
-        then act.TheVariants.Word l (op.TheVariants.Exchange s (s + 1)) else if b
-        then act.TheVariants.Word l (op.TheVariants.Exchange 1 3) else act.TheVariants.Enter
+        then act.Word l (op.Exchange s (s + 1)) else if b
+        then act.Word l (op.Exchange 1 3) else act.Enter
         (One (2 * l))))
     decided_keeps retries s false b = inl (operated_owner (Lock entries.Bump retries (lock.Decide s))
-        (op.TheVariants.Exchange s (s + 1)) lt
+        (op.Exchange s (s + 1)) lt
         ∙ still_own ((word_at w l == s) && not (is_locked (word_at w l))))
     decided_keeps retries s true true =
-        inl (operated_owner (Lock entries.Bump retries (lock.Decide s)) (op.TheVariants.Exchange 1 3) lt
+        inl (operated_owner (Lock entries.Bump retries (lock.Decide s)) (op.Exchange 1 3) lt
         ∙ still_own ((word_at w l == s) && not (is_locked (word_at w l))))
     decided_keeps retries s true false = inl own
 
@@ -221,9 +221,9 @@ module _ (w : State) (t l : ℕ) (shape : IsWellFormed w) (inductive : IsInducti
     lock_keeps : (retries : Bool) (a : LockAt)
         → ComesTo w t l (state_after_act w t (Mutex l (Lock entries.Bump retries a)) (lock_act l a))
     lock_keeps retries lock.First = inl (operated_owner (Lock entries.Bump retries lock.First)
-        (op.TheVariants.Exchange 0 1) lt ∙ still_own (word_at w l == 0))
+        (op.Exchange 0 1) lt ∙ still_own (word_at w l == 0))
     lock_keeps retries lock.Load = inl (operated_owner (Lock entries.Bump retries lock.Load)
-        op.TheVariants.Load lt)
+        op.Load lt)
     lock_keeps retries (lock.Decide s) = decided_keeps retries s (is_locked s) (s == 1)
     lock_keeps retries lock.Check = parked_keeps (word_at w l == 3)
     lock_keeps retries (lock.Leave parked) = inl own
@@ -233,24 +233,24 @@ module _ (w : State) (t l : ℕ) (shape : IsWellFormed w) (inductive : IsInducti
     lock_keeps retries lock.Accept = inl own
     lock_keeps retries lock.Remove = inl own
     lock_keeps retries lock.Clear = inl (operated_owner (Lock entries.Bump retries lock.Clear)
-        (op.TheVariants.And NOT_PARKED) lt)
+        (op.And NOT_PARKED) lt)
     lock_keeps retries lock.GiveUp = inl own
 
-    carries_nobody : (at : MutexPlace) → place_at w t ≡ Mutex l at → ((mutex_location at).carries ≡ Some false
+    carries_nobody : (at : MutexPlace) → place_at w t ≡ Mutex l at → ((mutex_location at).has_taken ≡ Some false
         → ⊥)
         → HasTakenNobody (lock_state w l) t
     carries_nobody at is none = in_no_hand w inductive t l
-        (λ h. none (sym (ap (λ x. x.carries) (own_stance l (place_at w t) at is)) ∙ h))
+        (λ h. none (sym (ap (λ x. x.has_taken) (own_stance l (place_at w t) at is)) ∙ h))
 
     unlock_fair_gives : place_at w t ≡ Mutex l UnlockFair
-        → ComesTo w t l (state_after_operation w t (Mutex l UnlockFair) l (op.TheVariants.Exchange 1 0))
+        → ComesTo w t l (state_after_operation w t (Mutex l UnlockFair) l (op.Exchange 1 0))
     unlock_fair_gives is = either (word_at w l == 1) refl
-        (operated_owner UnlockFair (op.TheVariants.Exchange 1 0) lt)
+        (operated_owner UnlockFair (op.Exchange 1 0) lt)
       where
         either : (b : Bool) → (word_at w l == 1) ≡ b
-            → owner_at (state_after_operation w t (Mutex l UnlockFair) l (op.TheVariants.Exchange 1 0)) l
+            → owner_at (state_after_operation w t (Mutex l UnlockFair) l (op.Exchange 1 0)) l
             ≡ (if b then None else Some t)
-            → ComesTo w t l (state_after_operation w t (Mutex l UnlockFair) l (op.TheVariants.Exchange 1 0))
+            → ComesTo w t l (state_after_operation w t (Mutex l UnlockFair) l (op.Exchange 1 0))
         either false e h = inl h
         either true e h = inr (inr (
           h,
@@ -268,17 +268,17 @@ module _ (w : State) (t l : ℕ) (shape : IsWellFormed w) (inductive : IsInducti
     hand_off_gives bumps hand_off.Enter is = inl own
     hand_off_gives bumps hand_off.Take is = taken_gives bumps (first_of (queue_at w (2 * l)))
     hand_off_gives bumps (hand_off.Store false none_left) is = inr (inr (
-      operated_owner (HandOff bumps (hand_off.Store false none_left)) (op.TheVariants.Store 0) lt,
+      operated_owner (HandOff bumps (hand_off.Store false none_left)) (op.Store 0) lt,
       carries_nobody (HandOff bumps (hand_off.Store false none_left)) is (λ g. absurd cc),
       inr ((inductive.sites.site l).emptied t Main (ap (λ d. d.empty) (own_role l (place_at w t) _ is))).1,
     ))
     hand_off_gives bumps (hand_off.Store true none_left) is = let one = inductive.stands.hands.carried t l
         false
-        (ap (λ x. x.carries) (own_stance l (place_at w t) _ is)) in inr (inl (
+        (ap (λ x. x.has_taken) (own_stance l (place_at w t) _ is)) in inr (inl (
           one.0,
           (held_there (place_at w one.0) t l (mutexes_at w t l (HandOff bumps (hand_off.Store true none_left))
               inductive is one.0) one.1).was,
-          ap (λ x. x.owners.exclusive) (get_or-set_same w.locks l _ (unlocked kind.TheVariants.Mutex) lt)
+          ap (λ x. x.owners.exclusive) (get_or-set_same w.locks l _ (unlocked kind.Mutex) lt)
               ∙ ap (λ (o : Owners). o.exclusive) (successor_one w t l one.0 false (aparts w inductive)
               inductive.stands.hands (single_at w t l (HandOff bumps (hand_off.Store true none_left))
               inductive is)
@@ -326,7 +326,7 @@ module _ (w : State) (t l : ℕ) (shape : IsWellFormed w) (inductive : IsInducti
   go_gives (Mutex k (Unlock a)) is fits h = absurd (let e : false ≡ true = h.1 in cc)
   go_gives (Mutex k UnlockFair) is fits h =
       rw h.0 (unlock_fair_gives (here k h.0 fits.0) (is ∙ ap (λ n. Mutex n UnlockFair) h.0))
-  go_gives (Mutex k Bump) is fits h = rw h (inl (operated_owner Bump op.TheVariants.Load (here k h fits.0)))
+  go_gives (Mutex k Bump) is fits h = rw h (inl (operated_owner Bump op.Load (here k h fits.0)))
   go_gives (Mutex k (HandOff true a)) is fits h =
       rw h (hand_off_gives (here k h fits.0) true a (is ∙ ap (λ n. Mutex n (HandOff true a)) h))
   go_gives (Mutex k (HandOff false a)) is fits h =
@@ -353,16 +353,16 @@ module _ (w : State) (t l : ℕ) (shape : IsWellFormed w) (inductive : IsInducti
   turned_gives : t < length w.places → IsFairRelease (call_state (place_at w t) (rights w t)).purpose l
       → (x : Turn)
       → can_turn w t x ≡ true → ComesTo w t l (state_after_turn w t x)
-  turned_gives there h (turn.TheVariants.Begin c) can = inl own
-  turned_gives there h turn.TheVariants.Go can = go_gives w t l shape inductive own of_mutex (place_at w t)
+  turned_gives there h (turn.Begin c) can = inl own
+  turned_gives there h turn.Go can = go_gives w t l shape inductive own of_mutex (place_at w t)
       refl
       (shape.places t) h
-  turned_gives there h turn.TheVariants.Spin can = spin_gives there h (respins_from (place_at w t)) refl
-  turned_gives there h turn.TheVariants.Late can = late_gives w t l shape inductive own of_mutex
+  turned_gives there h turn.Spin can = spin_gives there h (respins_from (place_at w t)) refl
+  turned_gives there h turn.Late can = late_gives w t l shape inductive own of_mutex
       (late_key (place_at w t))
-  turned_gives there h turn.TheVariants.Ok can =
+  turned_gives there h turn.Ok can =
       absurd (subst (λ p. IsFairRelease (call_state p (rights w t)).purpose l) (closes_one w t true can).is h)
-  turned_gives there h turn.TheVariants.Err can =
+  turned_gives there h turn.Err can =
       absurd (subst (λ p. IsFairRelease (call_state p (rights w t)).purpose l) (closes_one w t false can).is
       h)
 
@@ -486,16 +486,16 @@ module _ (w : State) (t l : ℕ) (shape : IsWellFormed w) (inductive : IsInducti
 
   turned_gives_shared : t < length w.places → (y : Turn) → can_turn w t y ≡ true
       → Comes (state_after_turn w t y)
-  turned_gives_shared there (turn.TheVariants.Begin c) can =
-      inl (owner_stays w (state_after_turn w t (turn.TheVariants.Begin c)) l t x refl h.1 h.2)
-  turned_gives_shared there turn.TheVariants.Go can = go_gives_shared w t l shape inductive counted x h.1 h.3
+  turned_gives_shared there (turn.Begin c) can =
+      inl (owner_stays w (state_after_turn w t (turn.Begin c)) l t x refl h.1 h.2)
+  turned_gives_shared there turn.Go can = go_gives_shared w t l shape inductive counted x h.1 h.3
       there can h.0 h.2
-  turned_gives_shared there turn.TheVariants.Spin can = spin_gives_shared there (respins_from (place_at w t))
+  turned_gives_shared there turn.Spin can = spin_gives_shared there (respins_from (place_at w t))
       refl
-  turned_gives_shared there turn.TheVariants.Late can = late_gives_shared (late_key (place_at w t))
-  turned_gives_shared there turn.TheVariants.Ok can =
+  turned_gives_shared there turn.Late can = late_gives_shared (late_key (place_at w t))
+  turned_gives_shared there turn.Ok can =
       absurd (subst (λ p. IsToGiveAt (call_state p (rights w t)) l x) (closes_one w t true can).is h.0).1
-  turned_gives_shared there turn.TheVariants.Err can =
+  turned_gives_shared there turn.Err can =
       absurd (subst (λ p. IsToGiveAt (call_state p (rights w t)) l x) (closes_one w t false can).is h.0).1
 
   after_gives_shared : (s : Step) → s.thread ≡ t → Comes (after w s)

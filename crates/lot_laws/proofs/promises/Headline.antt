@@ -17,7 +17,7 @@ use Rattle.spec_locks.specs.Headline as headline
 use Rattle.lot_laws.specs.Refinement.{runs_closure}
 use Rattle.lot_laws.proofs.sites.Opening.{kind_is, unfilled_0}
 use Rattle.lot_laws.proofs.promises.PromisesKept.{opening_is}
-use Rattle.lot_laws.proofs.alone.WorldRuns.{solo_world, step_is, world_after, world_kept}
+use Rattle.lot_laws.proofs.promises.WorldRuns.{solo_world, step_is, world_after, world_kept}
 use Rattle.lot_laws.proofs.promises.Heeds.{heeds}
 use Rattle.lot_laws.proofs.promises.OnItsWay.{on_its_way}
 use Rattle.lot_laws.proofs.calls.TriesEnd.{tries_end}

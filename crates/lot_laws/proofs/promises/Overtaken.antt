@@ -10,7 +10,7 @@ use Imports.{owner_at, taken_at, IsWorld, is_mutex, rules_in, FairlyThroughout, 
 use Imports.{NobodyIsOvertaken, StandsThroughout, new_owners, newly_owned}
 use Rattle.spec_locks.specs.declared.kinds.Kind.TheVariants as kinds
 use Rattle.spec_locks.specs.Locks as locks
-use Rattle.lot_laws.proofs.alone.WorldRuns.{step_is, world_after, world_kept}
+use Rattle.lot_laws.proofs.promises.WorldRuns.{step_is, world_after, world_kept}
 use Rattle.lot_laws.proofs.machine.KindsStay.{after_kinds}
 use Rattle.lot_laws.proofs.machine.Parts.{past_all, taken_held}
 use Rattle.lot_laws.proofs.mutex.FairHands.{given_up_fairly, in_hand}

@@ -15,9 +15,9 @@ use Rattle.lot_laws.proofs.calls.Looking.{alike_calls, closing_inductive, like}
 use Rattle.lot_laws.proofs.calls.Closings.{closing, closing_there}
 use Rattle.lot_laws.proofs.calls.OwnPlace.{gone_place, gone_told}
 use Rattle.lot_laws.proofs.calls.Closures.{RunsOne, closes_one}
-use Rattle.spec_locks.specs.declared.calls.Call as call
-use Rattle.spec_locks.specs.declared.calls.Turn as turn
-use Rattle.spec_locks.specs.declared.outcomes.Outcome as outcome
+use Rattle.spec_locks.specs.declared.calls.Call.TheVariants as call
+use Rattle.spec_locks.specs.declared.calls.Turn.TheVariants as turn
+use Rattle.spec_locks.specs.declared.outcomes.Outcome.TheVariants as outcome
 use Rattle.lot_laws.proofs.machine.Befallen.{others_keep_it}
 use Rattle.lot_laws.proofs.once.RunEnds.{ran_takes, run_goes_on}
 use Rattle.lot_laws.proofs.rwlock.GoesOn.{goes_on_waking, takes_next}
@@ -103,7 +103,7 @@ module _ (w v : State) (t : ℕ) (inductive : IsInductive w) (afterwards : IsInd
   )
 
   row_sees : (l : ℕ) (m : Line) (o : Outcome) (own : called_lock (place_at w t) ≡ Some l)
-      → RowFinds (sort_at w l) l (word_at w l) (profile (place_at w t)) m → o ≡ outcome.TheVariants.Step
+      → RowFinds (sort_at w l) l (word_at w l) (profile (place_at w t)) m → o ≡ outcome.Step
       → act_of (place_at v t) ≡ Enter (One (key_of l m)) → SeesWaiters w t l m o v
   row_sees l m o own s step enters = (
     lets_out w t inductive l single own s.0,
@@ -243,8 +243,8 @@ module _ (w : State) (t : ℕ) (shape : IsWellFormed w) (inductive : IsInductive
             → IsInductive (state_after_begin w t d) → (l : ℕ) (m : Line) (o : Outcome)
             → Owes (state_after_begin w t d) t l m
             ↔ (IsInside (state_after_begin w t d) t l m ⊎ SeesWaiters w t l m o (state_after_begin w t d))
-        by_call (call.TheVariants.Condvar k d) is after =
-            calm_owing w (state_after_begin w t (call.TheVariants.Condvar k d)) t k (condvar_first d) after is
+        by_call (call.Condvar k d) is after =
+            calm_owing w (state_after_begin w t (call.Condvar k d)) t k (condvar_first d) after is
             (first_calm d) shut
         by_call d is after = quiet_owes w (state_after_begin w t d) t inductive after
             (subst IsSingle (sym at_rest) tt) (subst IsSingle (sym is) tt)
@@ -325,19 +325,19 @@ module _ (w : State) (t : ℕ) (shape : IsWellFormed w) (inductive : IsInductive
         → Owes (state_after_turn w t x) t l m
         ↔ (IsInside (state_after_turn w t x) t l m ⊎ SeesWaiters w t l m (turn_outcome w t x)
         (state_after_turn w t x))
-    turned_owing (turn.TheVariants.Begin c) can afterwards l m =
-        begun_owing c can afterwards l m outcome.TheVariants.Step
-    turned_owing turn.TheVariants.Go can afterwards l m = gone_owes w t inductive there afterwards l m
-    turned_owing turn.TheVariants.Spin can afterwards l m = spun_owing (respins_from (place_at w t)) refl can
+    turned_owing (turn.Begin c) can afterwards l m =
+        begun_owing c can afterwards l m outcome.Step
+    turned_owing turn.Go can afterwards l m = gone_owes w t inductive there afterwards l m
+    turned_owing turn.Spin can afterwards l m = spun_owing (respins_from (place_at w t)) refl can
         afterwards l
         m
-    turned_owing turn.TheVariants.Late can afterwards l m = late_owing (late_key (place_at w t)) refl can
+    turned_owing turn.Late can afterwards l m = late_owing (late_key (place_at w t)) refl can
         afterwards l
         m
-        outcome.TheVariants.Step
-    turned_owing turn.TheVariants.Ok can afterwards l m = closed_owing true (closes_one w t true can)
+        outcome.Step
+    turned_owing turn.Ok can afterwards l m = closed_owing true (closes_one w t true can)
         afterwards l m
-    turned_owing turn.TheVariants.Err can afterwards l m = closed_owing false (closes_one w t false can)
+    turned_owing turn.Err can afterwards l m = closed_owing false (closes_one w t false can)
         afterwards l
         m
 
@@ -357,12 +357,12 @@ owes_since w s shape inductive counted condvars = record {
   where
     own : (b : Bool) → is_possible w s ≡ b → IsInductive (if b then state_after_turn w s.thread s.turn else w)
         → (l : ℕ) (m : Line)
-        → (if b then turn_outcome w s.thread s.turn else outcome.TheVariants.NotNow)
-        ≢ outcome.TheVariants.NotNow
+        → (if b then turn_outcome w s.thread s.turn else outcome.NotNow)
+        ≢ outcome.NotNow
         → Owes (if b then state_after_turn w s.thread s.turn else w) s.thread l m
         ↔ (IsInside (if b then state_after_turn w s.thread s.turn else w) s.thread l m
         ⊎ SeesWaiters w s.thread l m (if b then turn_outcome w s.thread s.turn
-        else outcome.TheVariants.NotNow) (if b then state_after_turn w s.thread s.turn else w))
+        else outcome.NotNow) (if b then state_after_turn w s.thread s.turn else w))
     own true can afterwards l m ne = let h = both (nat_lt s.thread (length w.places))
         (can_turn w s.thread s.turn)
         can in turned_owing w s.thread shape inductive (ltb-true s.thread (length w.places) h.0) s.turn h.1

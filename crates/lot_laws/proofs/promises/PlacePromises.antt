@@ -344,7 +344,7 @@ module _ (w : State) (t : ℕ) (inductive : IsInductive w) where
             ap one_if_some (taken_own (place_at w t) l own ∙ e) in
             let n = standing_by in omega arith
 
-  -- ---------------------------------------------------------------- its call
+  -- ---------------------------------------------------------------- the call of the thread
 
   module _ (l : ℕ) (single : IsSingle (place_at w t)) (own : called_lock (place_at w t) ≡ Some l) where
     -- the call is told by the row

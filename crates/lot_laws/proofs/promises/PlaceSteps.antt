@@ -14,7 +14,7 @@ use Rattle.lot_laws.proofs.semaphore.SemaphoreOwes.{semaphore_owes_next}
 use Rattle.lot_laws.proofs.semaphore.SemaphoreOwing.{semaphore_befallen, semaphore_late}
 use Rattle.spec_locks.specs.declared.calls.Patience.TheVariants as how
 use Rattle.spec_locks.specs.declared.calls.SemaphoreCall.TheVariants as semaphore_call
-use Rattle.spec_locks.specs.declared.calls.Call as call
+use Rattle.spec_locks.specs.declared.calls.Call.TheVariants as call
 use Rattle.lot_laws.proofs.once.OnceOwing.{once_befallen, once_late}
 use Rattle.spec_locks.specs.Locks as locks
 use Rattle.lot_laws.proofs.machine.Parts.{same, IsSingle}
@@ -124,15 +124,15 @@ owes_next w t l inductive single own = by_place (place_at w t) refl own
         (alone k a c is admitted.0.0))
 
 pub first_owes : (k : Kind) (c : Call) → (profile (first_place k c)).owes ≡ None
-first_owes k (call.TheVariants.Mutex m c) = mutex_first_owes (is_fair k) c
-first_owes k (call.TheVariants.RwLock m c) = rwlock_first_owes (admission_of_kind k) c
-first_owes k (call.TheVariants.Once m c) = refl
-first_owes k (call.TheVariants.Semaphore m (semaphore_call.Acquire how.Patient)) = refl
-first_owes k (call.TheVariants.Semaphore m (semaphore_call.Acquire how.Timed)) = refl
-first_owes k (call.TheVariants.Semaphore m (semaphore_call.Acquire how.Try)) = refl
-first_owes k (call.TheVariants.Semaphore m semaphore_call.Release) = refl
-first_owes k (call.TheVariants.Condvar m (condvar.Wait n timed)) = refl
-first_owes k (call.TheVariants.Condvar m (condvar.Notify all)) = refl
+first_owes k (call.Mutex m c) = mutex_first_owes (is_fair k) c
+first_owes k (call.RwLock m c) = rwlock_first_owes (admission_of_kind k) c
+first_owes k (call.Once m c) = refl
+first_owes k (call.Semaphore m (semaphore_call.Acquire how.Patient)) = refl
+first_owes k (call.Semaphore m (semaphore_call.Acquire how.Timed)) = refl
+first_owes k (call.Semaphore m (semaphore_call.Acquire how.Try)) = refl
+first_owes k (call.Semaphore m semaphore_call.Release) = refl
+first_owes k (call.Condvar m (condvar.Wait n timed)) = refl
+first_owes k (call.Condvar m (condvar.Notify all)) = refl
 
 pub late_next : (p : Place) (m : Line) → IsSingle p → (profile p).late_line ≡ Some m
     → IsLateNext (next_place p Late) m

@@ -44,7 +44,7 @@ use Rattle.lot_laws.proofs.machine.Parts.{IsOfTwo, condvar_apart, fits_two, sing
 use Rattle.lot_laws.proofs.promises.PlacePromises.{stands_there, there_stands}
 use Rattle.lot_laws.proofs.condvar.Asleep.{WasHandedBeside, two_asleep, two_hand_none}
 use Rattle.lot_laws.proofs.mutex.Waiters.{role_beside, location_beside}
-use Rattle.core_base.specs.declared.notes.Note as note
+use Rattle.core_base.specs.declared.notes.Note.TheVariants as note
 use Rattle.steps_base.specs.declared.acts.Wakes as wakes
 use Rattle.lot_laws.proofs.promises.Debtors.{going_owes_so, inside_owes_so, owing_so}
 use Rattle.lot_laws.proofs.condvar.MutexDebts.{LooksBeside, debtor_beside, idle_owes, looks_beside, no_second}
@@ -368,14 +368,14 @@ module _ (w : State) (inductive : IsInductive w) where
       → IsLookedAfterIn w l Main
   beside_done unmarked l sort some done = elim ((inductive.sites.site l).parked some) [
     | inl set ↦ absurd (unmarked l (once_kind (kind_at w l) sort) (marked_done w inductive l sort done set))
-    | inr sets ↦ looked_after sets.0 l Main (debtor (role_on (place_at w sets.0) l)
-        ((inductive.sites.site l).setting sets.0 sets.1))
+    | inr bit_pending ↦ looked_after bit_pending.0 l Main (debtor (role_on (place_at w bit_pending.0) l)
+        ((inductive.sites.site l).setting bit_pending.0 bit_pending.1))
         (λ own. let free = (inductive.sites.site l).state.unwritten (λ k. subst (λ x. sorts.Knows x Exclusive)
-        sort k) in let e : ◌≡◌ {A = Option ℕ} None (Some sets.0) = sym free ∙ own in cc)
+        sort k) in let e : ◌≡◌ {A = Option ℕ} None (Some bit_pending.0) = sym free ∙ own in cc)
   ]
     where
       debtor : (d : Role) → LooksAfter (sort_at w l) d → IsDebtorRole (sort_at w l) d
-      debtor d (inl covers) = inr (inl covers)
+      debtor d (inl owes_taken) = inr (inl owes_taken)
       debtor d (inr wakes) = inl wakes.1
 
   -- as many look after a semaphore's line as permits are free
@@ -490,17 +490,17 @@ module _ (w : State) (inductive : IsInductive w) where
         claims = ap (λ (d : Role). d.claims) (role_own (place_at w t) l own)
 
     -- each thread that hands over is inside, and wakes all that it has in hand as it leaves
-    tells_inside : (by l : ℕ) → (location_at (place_at w by) l).carries ≡ Some true
+    tells_inside : (by l : ℕ) → (location_at (place_at w by) l).has_taken ≡ Some true
         → (section_at w (2 * l) ≡ Some by)
-        × (act_of (place_at w by) ≡ Leave (One (2 * l)) (wakes.TheVariants.All note.TheVariants.HandOff))
-    tells_inside by l carries = elim (single_or_two (place_at w by)) [
+        × (act_of (place_at w by) ≡ Leave (One (2 * l)) (wakes.TheVariants.All note.HandOff))
+    tells_inside by l has_taken = elim (single_or_two (place_at w by)) [
       | inl single ↦ (let own = location_calls (place_at w by) l single (λ out. let e : ◌≡◌ {A = Option Bool}
-          None (Some true) = sym (ap (λ (x : Location). x.carries) out) ∙ carries in cc) in
+          None (Some true) = sym (ap (λ (x : Location). x.has_taken) out) ∙ has_taken in cc) in
           let told = (row_promises w by inductive l single own).tells
-          (sym (ap (λ (x : Location). x.carries) (location_own (place_at w by) l own)) ∙ carries) in
+          (sym (ap (λ (x : Location). x.has_taken) (location_own (place_at w by) l own)) ∙ has_taken) in
           ((inside_own w by inductive l single own Main).0 told.1, told.0))
       | inr two ↦ absurd (two_hand_none two.lock two.at (fits_two w by inductive two).reached l
-          (sym (ap (λ p. (location_at p l).carries) two.is) ∙ carries))
+          (sym (ap (λ p. (location_at p l).has_taken) two.is) ∙ has_taken))
     ]
 
     handed_beside : (two : IsOfTwo (place_at w t)) → WasHandedBeside two.lock two.at → IsHandedOverIn w t
@@ -535,8 +535,8 @@ module _ (w : State) (inductive : IsInductive w) where
     handed_at l single own handed =
         let in_hand : (location_at (place_at w t) l).hand ≡ hand handed.by true =
         ap (λ (x : Location). x.hand) (location_own (place_at w t) l own) ∙ handed.in_hand in
-        let carries = inductive.stands.hands.taken handed.by t l true in_hand in
-        let told = tells_inside handed.by l carries in
+        let has_taken = inductive.stands.hands.taken handed.by t l true in_hand in
+        let told = tells_inside handed.by l has_taken in
         record {
           lock = l;
           by = handed.by;
@@ -613,7 +613,7 @@ module _ (w : State) (inductive : IsInductive w) where
     parked = λ t l waiting. elim ((inductive.sites.site l).parked (not_empty t (lock_state w l).queue
         waiting)) [
           | inl set ↦ inl set
-          | inr sets ↦ inr (sets.0, is_to_mark w inductive sets.0 l sets.1)
+          | inr bit_pending ↦ inr (bit_pending.0, is_to_mark w inductive bit_pending.0 l bit_pending.1)
         ];
     aside_parked = λ l. (inductive.sites.site l).aside_parked;
     shown = λ l sort free. shows_waiters w l (condvars l sort) free;

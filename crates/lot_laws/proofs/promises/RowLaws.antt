@@ -7,7 +7,7 @@ use Rattle.spec_locks.specs.declared.kinds.Kind.TheVariants as kind
 use Rattle.lot_laws.proofs.sites.Opening.{opening_condvars, opening_inductive}
 use Rattle.lot_laws.proofs.hands.CountsPut.{opening_counted}
 use Rattle.lot_laws.proofs.mutex.FairMutexes.{opening_settled}
-use Rattle.lot_laws.proofs.alone.WorldRuns.{world_run, run_refines}
+use Rattle.lot_laws.proofs.promises.WorldRuns.{world_run, run_refines}
 
 three_hold : IsWorld three
 three_hold = record {

@@ -29,9 +29,9 @@ not_empty t (x ∷ q) h e = cc
 module _ (w : State) (s : IsInductive w) (l : ℕ) (rules : rules_in w l ≡ mutex) where
   -- a thread that is about to set the parked bit of a mutex is inside its section
   pub marks_inside : (u : ℕ) → IsAboutToMark w u l → section_at w (2 * l) ≡ Some u
-  marks_inside u sets = elim ((s.sites.site l).setting u sets) [
-    | inl covers ↦ (s.stands.sections u l Main).0 (sym (inside_is (place_at w u) l)
-        ∙ ((s.sites.site l).covered u covers).0)
+  marks_inside u bit_pending = elim ((s.sites.site l).setting u bit_pending) [
+    | inl owes_taken ↦ (s.stands.sections u l Main).0 (sym (inside_is (place_at w u) l)
+        ∙ ((s.sites.site l).covered u owes_taken).0)
     | inr once ↦ absurd (let both : locks.Once ≡ locks.Mutex = sym once.0 ∙ ap (λ (r : locks.Rules). r.sort)
         rules in cc)
   ]

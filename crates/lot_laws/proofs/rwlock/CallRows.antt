@@ -17,7 +17,7 @@ use Rattle.core_base.specs.declared.ops.Op.TheVariants as operation
 use Rattle.core_base.specs.Keys.{key_of}
 use Rattle.spec_locks.specs.declared.calls.Access.TheVariants as access
 use Rattle.steps_base.specs.declared.acts.Act.TheVariants as act
-use Rattle.steps_base.specs.declared.acts.Wakes as wakes
+use Rattle.steps_base.specs.declared.acts.Wakes.TheVariants as wakes
 use Rattle.steps_rwlock.specs.declared.places.RwLockAt.TheVariants as at
 use Rattle.steps_rwlock.specs.declared.purposes.RwLockPurpose.TheVariants as purpose
 use Rattle.steps_rwlock.specs.declared.enter.Decision.TheVariants as decisions
@@ -438,9 +438,9 @@ module _ (r : Rules) (a : Admission) (l : ℕ) (admits : Admits r a) where
       either true e = cc
       either false e = cc
 
-  hands_tell : (x : Access) (b : Bool) (to : HandOverAt) → (call_profile a (HandOver x b to)).carries
+  hands_tell : (x : Access) (b : Bool) (to : HandOverAt) → (call_profile a (HandOver x b to)).has_taken
       ≡ Some true
-      → (hand_over_act l a x to ≡ act.Leave (One (2 * l)) (wakes.TheVariants.All note.HandOff))
+      → (hand_over_act l a x to ≡ act.Leave (One (2 * l)) (wakes.All note.HandOff))
       × ((call_profile a (HandOver x b to)).role.inside ≡ Some Main)
   hands_tell x b (handing.Leave true true) h = (refl, refl)
   hands_tell x b (handing.Leave true false) h = absurd cc

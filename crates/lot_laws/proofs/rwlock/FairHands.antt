@@ -24,7 +24,7 @@ use Rattle.lot_laws.proofs.machine.Parts.{IsSingle, free_of}
 use Rattle.lot_laws.proofs.hands.Counted.{has_in_hand}
 use Rattle.lot_laws.proofs.hands.Moved.{thread_of}
 use Rattle.lot_laws.proofs.calls.CallEvents.{led_here}
-use Rattle.lot_laws.proofs.rwlock.RwLockStepsAreEvents.{case_by, GoesOnBy, by_effect, carries, deeds_by}
+use Rattle.lot_laws.proofs.rwlock.RwLockStepsAreEvents.{case_by, GoesOnBy, by_effect, has_taken, deeds_by}
 use Rattle.lot_laws.proofs.rwlock.RwLockStepsAreEvents.{effect_whom}
 use Rattle.lot_laws.proofs.rwlock.RwLockStepsAreEvents.{gives_counted, rwlock_goes_on, then_by}
 use Rattle.lot_laws.proofs.rwlock.RwLockStaysASite.{at_now, own, stands}
@@ -139,7 +139,7 @@ module _ (w : State) (t l : ℕ) (a : Admission) (c : RwLockCallPlace) (shape : 
   bare (PeekQueue y) may gives = refl
   bare (HandOver y b to) may gives = refl
 
-  carried : (c : RwLockCallPlace) (k : Counted) → in_hand_of c ≡ Some k → (call_profile a c).carries
+  carried : (c : RwLockCallPlace) (k : Counted) → in_hand_of c ≡ Some k → (call_profile a c).has_taken
       ≡ in_hand (any_taken k) false
   carried (Plain p) k e = absurd cc
   carried (Bump p) k e = absurd cc
@@ -158,7 +158,7 @@ module _ (w : State) (t l : ℕ) (a : Admission) (c : RwLockCallPlace) (shape : 
 
   in_hand_now : (k : Counted) → in_hand_of c ≡ Some k → HasInHand here.lock t k heir
   in_hand_now k e = has_in_hand w t l inductive (own w t l a c inductive shape there lt is) (any_taken k)
-      (carries w t l a c inductive shape there lt is ∙ carried c k e) k (counted t l a c k is e)
+      (has_taken w t l a c inductive shape there lt is ∙ carried c k e) k (counted t l a c k is e)
 
   free : here.lock.taken t ≡ None
   free = free_of (place_at w t) l (subst IsSingle (sym is) tt) (ap (λ p. (profile p).hand) is
@@ -168,8 +168,8 @@ module _ (w : State) (t l : ℕ) (a : Admission) (c : RwLockCallPlace) (shape : 
   led : (y : Act) (g : GoesOnBy w t l a c y)
       → lock_state (then_by w t l a c y) l ≡ (after_all r (deeds_by w t l a c g.whom y) here t).lock
   led y g = led_here w (then_by w t l a c y) t l (case_by w t l a c g.whom y) g.happened
-      ∙ sym (deeds_lead r t l (call_profile a c).carries (deeds_by w t l a c g.whom y) here
-      (λ none. in_no_hand w inductive t l (λ h. none (sym (carries w t l a c inductive shape there lt is)
+      ∙ sym (deeds_lead r t l (call_profile a c).has_taken (deeds_by w t l a c g.whom y) here
+      (λ none. in_no_hand w inductive t l (λ h. none (sym (has_taken w t l a c inductive shape there lt is)
       ∙ h)))
       g.tells.one)
 

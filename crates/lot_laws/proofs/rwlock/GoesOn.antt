@@ -17,7 +17,7 @@ use Imports.{GivesWayWhileSomeWait, IsInside, LetsMoreIn, TakesNext, sort_at, ca
 use Imports.{FitsItsLock, IsInductive}
 use Rattle.spec_locks.specs.declared.calls.Access.TheVariants as access
 use Rattle.spec_locks.specs.declared.calls.Downgrade.TheVariants as downgrade
-use Rattle.spec_locks.specs.declared.calls.Turn as turn
+use Rattle.spec_locks.specs.declared.calls.Turn.TheVariants as turn
 use Rattle.spec_locks.specs.declared.outcomes.Answer.TheVariants as answer
 use Rattle.spec_locks.specs.declared.outcomes.Outcome.TheVariants as told
 use Rattle.spec_locks.specs.Locks as locks
@@ -361,12 +361,12 @@ module _ (w : State) (t : ℕ) (inductive : IsInductive w) (l : ℕ) (gives : Gi
       ∙ (both (runs_closure (act_of (place_at w t))) (can_do w (act_of (closed_place w t x))) can).0 in cc
 
   by_turn : (x : Turn) → can_turn w t x ≡ true → turn_outcome w t x ≡ told.Step
-  by_turn (turn.TheVariants.Begin c) can = refl
-  by_turn turn.TheVariants.Go can = goes_outcome
-  by_turn turn.TheVariants.Spin can = absurd (let f : false ≡ true = sym (ap is_some looks_none) ∙ can in cc)
-  by_turn turn.TheVariants.Late can = refl
-  by_turn turn.TheVariants.Ok can = absurd (closes_not true can)
-  by_turn turn.TheVariants.Err can = absurd (closes_not false can)
+  by_turn (turn.Begin c) can = refl
+  by_turn turn.Go can = goes_outcome
+  by_turn turn.Spin can = absurd (let f : false ≡ true = sym (ap is_some looks_none) ∙ can in cc)
+  by_turn turn.Late can = refl
+  by_turn turn.Ok can = absurd (closes_not true can)
+  by_turn turn.Err can = absurd (closes_not false can)
 
 pub goes_on_waking : (w : State) (s : Step) → IsInductive w → (l : ℕ) → step_outcome w s ≢ told.NotNow
     → GivesWayWhileSomeWait w s.thread l → step_outcome w s ≡ told.Step
@@ -734,14 +734,14 @@ module _ (w : State) (t : ℕ) (inductive : IsInductive w) (l : ℕ) (lets : Let
   turn_takes : (x : Turn) → t < length w.places → can_turn w t x ≡ true → IsInductive (state_after_turn w t x)
       → IsInside (state_after_turn w t x) t l Main
       → TakesNext (state_after_turn w t x) t l (kept_by (call_at w t).purpose)
-  turn_takes (turn.TheVariants.Begin c) there can after inside = absurd (busy c can)
-  turn_takes turn.TheVariants.Go there can after inside = goes_takes there after inside
-  turn_takes turn.TheVariants.Spin there can after inside =
+  turn_takes (turn.Begin c) there can after inside = absurd (busy c can)
+  turn_takes turn.Go there can after inside = goes_takes there after inside
+  turn_takes turn.Spin there can after inside =
       absurd (let f : false ≡ true = sym (ap is_some looks_never) ∙ can in cc)
-  turn_takes turn.TheVariants.Late there can after inside =
+  turn_takes turn.Late there can after inside =
       absurd (let f : false ≡ true = sym (ap (is_free_under w) late_never) ∙ can in cc)
-  turn_takes turn.TheVariants.Ok there can after inside = absurd (closes_never true can)
-  turn_takes turn.TheVariants.Err there can after inside = absurd (closes_never false can)
+  turn_takes turn.Ok there can after inside = absurd (closes_never true can)
+  turn_takes turn.Err there can after inside = absurd (closes_never false can)
 
 pub takes_next : (w : State) (s : Step) → IsInductive w → IsInductive (after w s) → (l : ℕ)
     → LetsMoreIn w s.thread l → (IsInside w s.thread l Main → ⊥) → IsInside (after w s) s.thread l Main

@@ -19,7 +19,7 @@ use Rattle.core_base.specs.declared.keys.Line.TheVariants.{Main, Second}
 use Rattle.core_base.specs.declared.notes.Note.TheVariants as note
 use Rattle.spec_locks.specs.declared.calls.Access.TheVariants as access
 use Rattle.spec_locks.specs.declared.calls.RwLockCall.TheVariants as rwlock_call
-use Rattle.spec_locks.specs.declared.outcomes.Answer as answer
+use Rattle.spec_locks.specs.declared.outcomes.Answer.TheVariants as answer
 use Rattle.steps_base.specs.declared.acts.Next.TheVariants as next
 use Rattle.steps_base.specs.declared.acts.Reply.TheVariants as reply
 use Rattle.steps_rwlock.specs.declared.places.RwLockAt.TheVariants as at
@@ -461,15 +461,15 @@ module _ (r : Rules) (readers : has_readers r.sort ≡ true) (a : Admission) (l 
   gives_way : (q : RwLockPurpose) (again : Bool) → StandsAt q again at.GiveWay
       → OwesNext r a l word (of q again at.GiveWay) (gave_way_by (of q again at.GiveWay) word q)
   gives_way (purpose.Release access.Shared) again stands = frees (purpose.Release access.Shared) again
-      at.GiveWay Second (inl refl) (ap (λ b. if b then Second else Main) readers) answer.TheVariants.Ok
+      at.GiveWay Second (inl refl) (ap (λ b. if b then Second else Main) readers) answer.Ok
       (has_aside word && (count_in word == 1)) (ap (λ b. b && (count_in word == 1))
       (aside_is r.sort word readers))
   gives_way (purpose.Release access.Upgradable) again stands = frees (purpose.Release access.Upgradable) again
-      at.GiveWay Main (inl refl) refl answer.TheVariants.Ok (has_parked word) (parked_is r.sort word readers)
+      at.GiveWay Main (inl refl) refl answer.Ok (has_parked word) (parked_is r.sort word readers)
   gives_way (purpose.Release access.Exclusive) again stands = frees (purpose.Release access.Exclusive) again
-      at.GiveWay Main (inl refl) refl answer.TheVariants.Ok (has_parked word) (parked_is r.sort word readers)
+      at.GiveWay Main (inl refl) refl answer.Ok (has_parked word) (parked_is r.sort word readers)
   gives_way (purpose.Downgrade d) again stands = frees (purpose.Downgrade d) again at.GiveWay Main
-      (inr (readers, inl (refl, lesser d))) refl answer.TheVariants.Ok (has_parked word)
+      (inr (readers, inl (refl, lesser d))) refl answer.Ok (has_parked word)
       (parked_is r.sort word readers)
   gives_way (purpose.Upgrade how) again stands = either (count_in word == 1)
     where
@@ -489,10 +489,10 @@ module _ (r : Rules) (readers : has_readers r.sort ≡ true) (a : Admission) (l 
   rolls_back : (q : RwLockPurpose) (again : Bool) → StandsAt q again at.RollBack
       → OwesNext r a l word (of q again at.RollBack) (rolled_back (of q again at.RollBack) word)
   rolls_back (purpose.Enter x how) again stands = frees (purpose.Enter x how) again at.RollBack Main
-      (inr (readers, inr (refl, refl))) refl answer.TheVariants.No (has_parked word)
+      (inr (readers, inr (refl, refl))) refl answer.No (has_parked word)
       (parked_is r.sort word readers)
   rolls_back (purpose.Upgrade how) again stands = frees (purpose.Upgrade how) again at.RollBack Main
-      (inr (readers, inr (refl, refl))) refl answer.TheVariants.No (has_parked word)
+      (inr (readers, inr (refl, refl))) refl answer.No (has_parked word)
       (parked_is r.sort word readers)
   rolls_back (purpose.Release access.Shared) again stands = absurd stands
   rolls_back (purpose.Release access.Upgradable) again stands = absurd stands

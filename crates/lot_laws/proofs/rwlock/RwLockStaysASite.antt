@@ -60,7 +60,7 @@ role_is a (next.End answer) = refl
 
 -- ---------------------------------------------------------------- the notes that a thread may be told
 
--- but of its entering, of the word, or of its time
+-- replies but those of an entering, of the word, or of a time that is up
 abbrev IsOther : Reply → Type 0
 IsOther Done = ⊥
 IsOther (Value seen) = ⊥
@@ -306,8 +306,8 @@ module _ (w : State) (t l : ℕ) (a : Admission) (c : RwLockCallPlace) (inductiv
     pub goes : Goes w (put (state_after_act w t (RwLock l a c) y) t (next_place q (reply_to w t y))) l
         (acts t (call_deeds a c whom (reply_to w t y)))
     pub tells : CallTells (rules_in w l) a here t l c whom (reply_to w t y)
-    pub others : WakesOwn ((call_profile a c).carries) y
-        (case_of ((call_profile a c).carries) (call_deeds a c whom (reply_to w t y)))
+    pub others : WakesOwn ((call_profile a c).has_taken) y
+        (case_of ((call_profile a c).has_taken) (call_deeds a c whom (reply_to w t y)))
 
 -- ---------------------------------------------------------------- a call begins
 

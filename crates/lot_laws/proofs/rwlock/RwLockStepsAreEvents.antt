@@ -67,7 +67,7 @@ module _ (w : State) (t l : ℕ) (a : Admission) (c : RwLockCallPlace) where
   deeds_by whom y = call_deeds a c whom (reply_to w t y)
 
   abbrev pub case_by : Option ℕ → Act → Option LockCase
-  case_by whom y = case_of (call_profile a c).carries (deeds_by whom y)
+  case_by whom y = case_of (call_profile a c).has_taken (deeds_by whom y)
 
   -- the thread's deeds are one event of the lock, which its call allows, and by which it goes on with those
   -- of the others
@@ -84,9 +84,9 @@ module _ (w : State) (t l : ℕ) (a : Admission) (c : RwLockCallPlace) (inductiv
   of = ap called_lock is
 
   -- a thread that it has in hand, by its place
-  pub carries : carried_at (place_at w t) l ≡ (call_profile a c).carries
-  carries = ap (λ (y : Location). y.carries) (location_own (place_at w t) l of)
-      ∙ ap (λ q. (location q).carries) is
+  pub has_taken : carried_at (place_at w t) l ≡ (call_profile a c).has_taken
+  has_taken = ap (λ (y : Location). y.has_taken) (location_own (place_at w t) l of)
+      ∙ ap (λ q. (location q).has_taken) is
 
   abbrev goes : Option ℕ → Act → Type 0
   goes whom y = Goes w (then_by w t l a c y) l (acts t (deeds_by w t l a c whom y))
@@ -97,10 +97,10 @@ module _ (w : State) (t l : ℕ) (a : Admission) (c : RwLockCallPlace) (inductiv
   -- nobody else claims anything
   happens_by : (y : Act) (whom : Option ℕ) → goes whom y → tells whom y
       → IsEvent w (then_by w t l a c y) t (event_by l (case_by w t l a c whom y))
-  happens_by y whom went told = happens w (then_by w t l a c y) t l (call_profile a c).carries
+  happens_by y whom went told = happens w (then_by w t l a c y) t l (call_profile a c).has_taken
       (deeds_by w t l a c whom y) [] inductive (subst (Goes w (then_by w t l a c y) l)
       (sym (append-nil (acts t (deeds_by w t l a c whom y)))) went) tt told.one
-      (λ none. in_no_hand w inductive t l (λ h. none (sym carries ∙ h)))
+      (λ none. in_no_hand w inductive t l (λ h. none (sym has_taken ∙ h)))
 
   -- for itself alone
   module _ (y : Act) (here : TakesHere l y) (from : GoesFrom w t l a c inductive shape there lt is
@@ -115,13 +115,13 @@ module _ (w : State) (t l : ℕ) (a : Admission) (c : RwLockCallPlace) (inductiv
     -- the threads in the hand are woken, and nobody else's call changes
     own_others : OthersFollow w (then_by w t l a c y) t (event_by l own_case)
     own_others = others_follow w (then_by w t l a c y) t l own_case own_happened
-        (hands_nothing w (then_by w t l a c y) t l own_case own_happened (call_profile a c).carries y own_case
+        (hands_nothing w (then_by w t l a c y) t l own_case own_happened (call_profile a c).has_taken y own_case
         from.others)
         (wakes_own w t l inductive (rw is refl) (next_place (RwLock l a c) (reply_to w t y))
         (λ e. let some : has_readers (rules_in w l).sort ≡ true =
         (admits w t l a c inductive shape there lt is).0 in let none : has_readers (rules_in w l).sort
         ≡ false = ap has_readers e in cc) (RwLock l a c) y here own_case
-        (subst (λ h. WakesOwn h y own_case) (sym carries) from.others))
+        (subst (λ h. WakesOwn h y own_case) (sym has_taken) from.others))
 
     by_own : GoesOnBy w t l a c y
     by_own = record { whom = from.whom; tells = from.tells; happened = own_happened; others = own_others }
@@ -162,7 +162,7 @@ module _ (w : State) (t l : ℕ) (a : Admission) (c : RwLockCallPlace) (inductiv
           told_so
 
       calmly : IsCalm case
-      calmly = subst (λ ds. IsCalm (case_of (call_profile a c).carries ds))
+      calmly = subst (λ ds. IsCalm (case_of (call_profile a c).has_taken ds))
           (sym ((g w t l a c inductive shape there lt is k is_k (counted t l a c k is is_k) op e).fails heir
           (word_at w l) fails)) tt
 

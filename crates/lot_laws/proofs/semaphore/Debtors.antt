@@ -14,7 +14,7 @@ use Rattle.steps_semaphore.specs.declared.release.ReleaseAt.TheVariants as relea
 
 -- ---------------------------------------------------------------- numbers
 
--- this many different threads of the first n owe 1 each
+-- a number of different threads of the first n owe 1 each
 pub record Distinct (n : ℕ) (f : ℕ → ℕ) (m : ℕ) : Type 0 where
   pub thread : ℕ → ℕ
   pub within : (i : ℕ) → i < m → thread i < n
@@ -89,9 +89,9 @@ distinct (suc n) f m few enough = by_last (λ k le. distinct n f k few le) (f n)
 -- ---------------------------------------------------------------- roles
 
 pub owing_role : (d : Role) → debt d ≡ 1 → IsDebtorRole locks.Semaphore d
-owing_role d e = by_parts d.wakes d.covers d.retries refl refl refl
+owing_role d e = by_parts d.wakes d.owes_taken d.retries refl refl refl
   where
-    by_parts : (a : Option Line) (b : Bool) (c : Option Want) → d.wakes ≡ a → d.covers ≡ b → d.retries ≡ c
+    by_parts : (a : Option Line) (b : Bool) (c : Option Want) → d.wakes ≡ a → d.owes_taken ≡ b → d.retries ≡ c
         → IsDebtorRole locks.Semaphore d
     by_parts (Some Main) b c f g h = inl f
     by_parts a true c f g h = inr (inl g)

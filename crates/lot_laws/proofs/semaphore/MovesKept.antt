@@ -30,20 +30,20 @@ module _ (w : State) (t l : ℕ) (inductive : IsInductive w) (own : IsOf l (plac
     < length w.places) (p2 : Place)
     (of : IsOf l p2) (fits : FitsItsLock w p2) (many : TakesOne w l → ⊥)
     (out : (location (place_at w t)).stands ≡ None) (free : (location (place_at w t)).hand ≡ None)
-    (bare : (location (place_at w t)).carries ≡ None) (r : Rules) (rules : rules_in w l ≡ r)
+    (bare : (location (place_at w t)).has_taken ≡ None) (r : Rules) (rules : rules_in w l ≡ r)
     (none : taken_at (place_at w t) l ≡ None) (none2 : taken_at p2 l ≡ None)
     (inside : (location p2).inside ≡ (location (place_at w t)).inside) (stands : (location p2).stands ≡ None)
     (unheld : (location p2).hand ≡ None)
     (x : Waiter) (rest : List Waiter) (first : queue_at w (2 * l) ≡ x ∷ rest) (shares : x.want ≡ Shared)
     (line : 2 * l < length w.queues) where
-  first_goes : IsTakenFrom w t l Main (place_at w x.thread) → (location p2).carries ≡ Some false
+  first_goes : IsTakenFrom w t l Main (place_at w x.thread) → (location p2).has_taken ≡ Some false
       → ActsNeeded r (acts t (Case (TakeFirst (queued x.thread)) ∷ [])) (lock_by w l r)
       → role_on p2 l ≡ (after_acts r (acts t (Case (TakeFirst (queued x.thread)) ∷ [])) (lock_by w l r)).role
       t
       → Goes w (put (state_after_reply (record w { queues = queues_without_first w.queues (2 * l) }) x.thread
       (TakenBy t)) t p2) l
       (acts t (Case (TakeFirst (queued x.thread)) ∷ []))
-  first_goes sleeps carries needed own_is = take_goes w t l inductive own there p2 of fits many Main (x ∷ [])
+  first_goes sleeps has_taken needed own_is = take_goes w t l inductive own there p2 of fits many Main (x ∷ [])
       rest
       (record {
         counts = λ u. let a : times u (queue_at w (2 * l)) ≡ times u (x ∷ rest) = ap (times u) first
@@ -61,8 +61,8 @@ module _ (w : State) (t l : ℕ) (inductive : IsInductive w) (own : IsOf l (plac
       (get_or-set_same w.queues (2 * l) (drop 1 (queue_at w (2 * l))) [] line ∙ ap (drop 1) first)
       (λ key ne. get_or-set_other w.queues (2 * l) key (drop 1 (queue_at w (2 * l))) [] ne) inside stands
       unheld
-      (λ b e. let f : Some false ≡ Some b = sym carries ∙ e in let g : false ≡ b = cc
-      in (sym g, (x.thread, same_one))) (λ u h. carries)
+      (λ b e. let f : Some false ≡ Some b = sym has_taken ∙ e in let g : false ≡ b = cc
+      in (sym g, (x.thread, same_one))) (λ u h. has_taken)
       (Case (TakeFirst (queued x.thread))) (tt, tt) ((λ h. h), tt) needed
       (λ i. record (lock_by w l r).lock {
         queue = sym (ap (λ (q : List Waiter). drop 1 (map queued_of q)) first) i;
@@ -112,14 +112,14 @@ module _ (w : State) (t l : ℕ) (inductive : IsInductive w) (there : t < length
       (put (state_after_reply (record w { queues = queues_without_first w.queues (2 * l) }) y.thread
       (TakenBy t)) t p2) l (acts t ds)) (sym does)
       (first_goes w t l inductive own there p2 f.of f.fits many (ap (λ (z : Location). z.stands) is_now)
-      (ap (λ (z : Location). z.hand) is_now) (ap (λ (z : Location). z.carries) is_now) r rules
+      (ap (λ (z : Location). z.hand) is_now) (ap (λ (z : Location). z.has_taken) is_now) r rules
       (first.hand_now w t l inductive there own r rules x same_row hears take_deeds line g)
       (first.hand_then w t l inductive there own r rules x same_row hears take_deeds line g (Some y.thread)
       true (length rest == 0) f)
       (ap (λ (z : Location). z.inside) at_then ∙ sym (ap (λ (z : Location). z.inside) is_now))
       (ap (λ (z : Location). z.stands) at_then) (ap (λ (z : Location). z.hand) at_then)
       y rest e wants line (sleeps_in w t l inductive there own r rules x same_row asleep Main y.thread g.was
-      stands_there) (ap (λ (z : Location). z.carries) at_then)
+      stands_there) (ap (λ (z : Location). z.has_taken) at_then)
       (needed_by w t l inductive there own r rules x same_row (Some y.thread) (Took true (length rest == 0))
       p2 f
       (take_deeds (Some y.thread)) does)
@@ -132,7 +132,7 @@ module _ (w : State) (t l : ℕ) (inductive : IsInductive w) (there : t < length
       does : x.deeds (Some y.thread) (Took true (length rest == 0)) ≡ take_deeds (Some y.thread)
       does = g.deeds (Some y.thread) true (length rest == 0)
 
-      at_then : location p2 ≡ record (inside_of Main) { carries = Some false }
+      at_then : location p2 ≡ record (inside_of Main) { has_taken = Some false }
       at_then = first.is_then w t l inductive there own r rules x same_row hears take_deeds line g
           (Some y.thread) true (length rest == 0) f
 

@@ -40,7 +40,7 @@ role_is : (n : Next SemaphorePlace) → role_next n ≡ (row_of (next_row n)).ro
 role_is (next.At p) = refl
 role_is (next.End answer) = refl
 
--- ---------------------------------------------------------------- its word
+-- ---------------------------------------------------------------- the word
 
 -- a semaphore has no second line, and nothing but the holders of permits changes
 module _ (r : Rules) (s : Site) (t : ℕ) where

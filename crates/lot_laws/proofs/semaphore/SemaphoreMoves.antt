@@ -199,7 +199,7 @@ semaphore_acts_move l (Release release.Take) h = (
 )
   where
     took : (any none_left : Bool) → location_then (semaphore_move (Release release.Take))
-        (reply.Took any none_left) ≡ record (inside_of Main) { carries = in_hand any false }
+        (reply.Took any none_left) ≡ record (inside_of Main) { has_taken = in_hand any false }
     took any true = refl
     took any false = refl
 semaphore_acts_move l (Release (release.Clear any)) h = (refl, stays_put refl (λ seen. tt) (λ seen. refl))

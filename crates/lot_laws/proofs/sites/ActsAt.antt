@@ -11,7 +11,7 @@ use Imports.{owners_at, share_at, filled_at, kind_at, queue_at, section_at, put,
 use Imports.{state_with_sections, queues_with_last, queues_without, queues_without_first, taken_at, acts}
 use Imports.{location_at, nowhere, role_on, locations_of, TakesOne, ActsNeeded, IsInductive, SiteFollows, Goes}
 use Imports.{FitsItsLock, AllAreWaiting, AreWaiting, rules_in, key_of, stood_in}
-use Rattle.spec_locks.specs.declared.kinds.Kind as kind
+use Rattle.spec_locks.specs.declared.kinds.Kind.TheVariants as kind
 use Rattle.lot_machine.specs.declared.locks.Lock.{Lock}
 use Rattle.lot_laws.specs.Locations.{Location}
 use Rattle.lot_laws.proofs.semaphore.Permits.{all_by}
@@ -73,7 +73,7 @@ module _ (w : State) (t l : ℕ) (inductive : IsInductive w) (there : t < length
   base_stays v el es ep k = λ i. record {
     shared = get_or (es i) k (replicate ((ap (λ (xs : List Place). length xs) ep ∙ length-set w.places t p2)
         i) 0);
-    filled = (get_or (el i) k (unlocked kind.TheVariants.Mutex)).filled;
+    filled = (get_or (el i) k (unlocked kind.Mutex)).filled;
   }
 
   places_put : (v : State) → v.places ≡ set w.places t p2 → place_at v ≡ putting (place_at w) t p2
@@ -88,20 +88,20 @@ module _ (w : State) (t l : ℕ) (inductive : IsInductive w) (there : t < length
   lines_move v m s el es ep em en elsewhere = record {
     here = λ i. record {
       base = base_stays v el es ep l i;
-      word = (get_or (el i) l (unlocked kind.TheVariants.Mutex)).word;
-      owners = (get_or (el i) l (unlocked kind.TheVariants.Mutex)).owners;
+      word = (get_or (el i) l (unlocked kind.Mutex)).word;
+      owners = (get_or (el i) l (unlocked kind.Mutex)).owners;
       main = em i;
       second = en i;
     };
     others = λ k ne i. record {
       base = base_stays v el es ep k i;
-      word = (get_or (el i) k (unlocked kind.TheVariants.Mutex)).word;
-      owners = (get_or (el i) k (unlocked kind.TheVariants.Mutex)).owners;
+      word = (get_or (el i) k (unlocked kind.Mutex)).word;
+      owners = (get_or (el i) k (unlocked kind.Mutex)).owners;
       main = elsewhere k ne Main i;
       second = elsewhere k ne Second i;
     };
     places = places_put v ep;
-    kinds = λ k i. (get_or (el i) k (unlocked kind.TheVariants.Mutex)).kind;
+    kinds = λ k i. (get_or (el i) k (unlocked kind.Mutex)).kind;
     alike = λ k ne. alike_put l k (place_at w) t p2 alike ne;
     numbers = record {
       threads = ap (λ (xs : List Place). length xs) ep ∙ length-set w.places t p2;
@@ -144,10 +144,10 @@ module _ (w : State) (t l : ℕ) (inductive : IsInductive w) (there : t < length
           base = record {
             shared = shares_here w l t (length (set w.places t p2)) (length-set w.places t p2) shared
                 (shares_after p (word_at w l) (share_at w l t)) i;
-            filled = (get_or-set_same w.locks l lock_then (unlocked kind.TheVariants.Mutex) lt i).filled;
+            filled = (get_or-set_same w.locks l lock_then (unlocked kind.Mutex) lt i).filled;
           };
-          word = (get_or-set_same w.locks l lock_then (unlocked kind.TheVariants.Mutex) lt i).word;
-          owners = (get_or-set_same w.locks l lock_then (unlocked kind.TheVariants.Mutex) lt i).owners;
+          word = (get_or-set_same w.locks l lock_then (unlocked kind.Mutex) lt i).word;
+          owners = (get_or-set_same w.locks l lock_then (unlocked kind.Mutex) lt i).owners;
           main = queue_at w (2 * l);
           second = queue_at w (2 * l + 1);
         };
@@ -155,10 +155,10 @@ module _ (w : State) (t l : ℕ) (inductive : IsInductive w) (there : t < length
           base = record {
             shared = shares_there w l t (length (set w.places t p2)) (length-set w.places t p2) shared k ne
                 (shares_after p (word_at w l) (share_at w l t)) i;
-            filled = (get_or-set_other w.locks l k lock_then (unlocked kind.TheVariants.Mutex) ne i).filled;
+            filled = (get_or-set_other w.locks l k lock_then (unlocked kind.Mutex) ne i).filled;
           };
-          word = (get_or-set_other w.locks l k lock_then (unlocked kind.TheVariants.Mutex) ne i).word;
-          owners = (get_or-set_other w.locks l k lock_then (unlocked kind.TheVariants.Mutex) ne i).owners;
+          word = (get_or-set_other w.locks l k lock_then (unlocked kind.Mutex) ne i).word;
+          owners = (get_or-set_other w.locks l k lock_then (unlocked kind.Mutex) ne i).owners;
           main = queue_at w (2 * k);
           second = queue_at w (2 * k + 1);
         };
@@ -299,14 +299,14 @@ module _ (w : State) (t l : ℕ) (inductive : IsInductive w) (there : t < length
     line_goes ds plain steps counts own_count to wanted e to_here lined = record {
       follows = line_follows ds plain steps;
       stands = stands_put w v inductive.stands
-          (λ k i. (get_or (el i) k (unlocked kind.TheVariants.Mutex)).kind)
+          (λ k i. (get_or (el i) k (unlocked kind.Mutex)).kind)
           t p2 fits (places_put v ep)
           (subst (λ (f : ℕ → Option ℕ). AreThere (TakesOne w) locations_now f (queue_at v))
           (λ i key. get_or (sym es i) key None)
           (line_changes (locations_of (place_at w)) locations_now (section_at w) (queue_at w) before t l
           others_still m (queue_at v) elsewhere (λ u ne. ap (times u) here ∙ counts u ne)
           (λ n. own_count n ∙ ap (λ (x : Location). stood_in x.stands n) (sym put_now)) waits_now
-          (ap (λ (x : Location). x.inside) (put_now ∙ e)) (ap (λ (x : Location). x.carries) (put_now ∙ e))
+          (ap (λ (x : Location). x.inside) (put_now ∙ e)) (ap (λ (x : Location). x.has_taken) (put_now ∙ e))
           (ap (λ (x : Location). x.hand) (put_now ∙ e))));
     }
       where

@@ -123,13 +123,13 @@ module _ (w : State) (t l : ℕ) (inductive : IsInductive w) (shape : IsWellForm
         (acts t (x.deeds who (reply_to w t y)))
     pub told : hears r here t who (reply_to w t y)
     pub brief : IsBrief (reply_to w t y)
-    pub others : WakesOwn x.row.carries y (case_of x.row.carries (x.deeds who (reply_to w t y)))
+    pub others : WakesOwn x.row.has_taken y (case_of x.row.has_taken (x.deeds who (reply_to w t y)))
     -- the thread is in nobody's hand then
     pub free : (location_then x (reply_to w t y)).hand ≡ None
 
-  calm_by : (ds : List Deed) {more : List Deed} → more ≡ ds → AreCalm ds → IsCalm (case_of x.row.carries more)
-  calm_by ds e h = subst (λ (ds : List Deed). IsCalm (case_of x.row.carries ds)) (sym e)
-      (calm_case x.row.carries ds h)
+  calm_by : (ds : List Deed) {more : List Deed} → more ≡ ds → AreCalm ds → IsCalm (case_of x.row.has_taken more)
+  calm_by ds e h = subst (λ (ds : List Deed). IsCalm (case_of x.row.has_taken ds)) (sym e)
+      (calm_case x.row.has_taken ds h)
 
   pub into : (m : Line) (keys : Keys) → keys ≡ One (key_of l m) → are_free w keys ≡ true
       → GoesIn x hears m Done → GoesBy None (act.Enter keys)
@@ -155,14 +155,14 @@ module _ (w : State) (t l : ℕ) (inductive : IsInductive w) (shape : IsWellForm
         (section_there w l shape lt m) g (λ h. followed Done tt h) woken;
     told = left_hears w t l inductive there own r refl x same_row hears m wakes g;
     brief = tt;
-    others = subst (λ y. WakesOwn x.row.carries (act.Leave (One (key_of l m)) y)
-        (case_of x.row.carries (x.deeds None Done))) (sym g.notes) (either g.any g.carries);
+    others = subst (λ y. WakesOwn x.row.has_taken (act.Leave (One (key_of l m)) y)
+        (case_of x.row.has_taken (x.deeds None Done))) (sym g.notes) (either g.any g.has_taken);
     free = ap (λ (y : Location). y.hand) g.goes ∙ g.free;
   })
     where
-      either : (any : Bool) → x.row.carries ≡ in_hand any false
-          → WakesOwn x.row.carries (act.Leave (One (key_of l m)) (wakes_taken any Normal))
-          (case_of x.row.carries (x.deeds None Done))
+      either : (any : Bool) → x.row.has_taken ≡ in_hand any false
+          → WakesOwn x.row.has_taken (act.Leave (One (key_of l m)) (wakes_taken any Normal))
+          (case_of x.row.has_taken (x.deeds None Done))
       either false f = subst (λ y. IsCalm (case_of y (x.deeds None Done))) (sym f)
           (left_calm (x.deeds None Done) g.deeds)
       either true f = inl (
@@ -183,18 +183,18 @@ module _ (w : State) (t l : ℕ) (inductive : IsInductive w) (shape : IsWellForm
         (next_place (place_at w t) Done) (section_there w l shape lt Main) (followed Done tt done) woken;
     told = done;
     brief = tt;
-    others = subst (λ y. WakesOwn x.row.carries (act.Leave (One (key_of l Main)) y)
-        (case_of x.row.carries (x.deeds None Done))) (sym g.notes)
-        (either g.any (ap (λ (y : Location). y.carries) g.was));
+    others = subst (λ y. WakesOwn x.row.has_taken (act.Leave (One (key_of l Main)) y)
+        (case_of x.row.has_taken (x.deeds None Done))) (sym g.notes)
+        (either g.any (ap (λ (y : Location). y.has_taken) g.was));
     free = ap (λ (y : Location). y.hand) g.goes;
   })
     where
       done : hears r here t None Done
       done = told_hears w t l inductive there own r refl x same_row hears wakes g
 
-      either : (any : Bool) → x.row.carries ≡ in_hand any true
-          → WakesOwn x.row.carries (act.Leave (One (key_of l Main)) (wakes_taken any HandOff))
-          (case_of x.row.carries (x.deeds None Done))
+      either : (any : Bool) → x.row.has_taken ≡ in_hand any true
+          → WakesOwn x.row.has_taken (act.Leave (One (key_of l Main)) (wakes_taken any HandOff))
+          (case_of x.row.has_taken (x.deeds None Done))
       either false f = subst (λ y. IsCalm (case_of y (x.deeds None Done))) (sym f)
           (left_calm (x.deeds None Done) g.deeds)
       either true f = inr (
@@ -229,7 +229,7 @@ module _ (w : State) (t l : ℕ) (inductive : IsInductive w) (shape : IsWellForm
         free = out (holds check (word_at w l));
       }))
     where
-      calmly : (b : Bool) → IsCalm (case_of x.row.carries (x.deeds None (Parked b)))
+      calmly : (b : Bool) → IsCalm (case_of x.row.has_taken (x.deeds None (Parked b)))
       calmly true = calm_by (parks_in m want ∷ []) g.parks (in_line_calm m want)
       calmly false = calm_by [] g.turns tt
 

@@ -18,7 +18,7 @@ pub record TakesFirst (takes : Option ℕ → List Deed) (x : StepView) (hears :
   pub was : location_of x ≡ inside_of Main
   pub deeds : (whom : Option ℕ) (any none_left : Bool) → x.deeds whom (Took any none_left) ≡ takes whom
   pub goes : (any none_left : Bool)
-      → location_then x (Took any none_left) ≡ record (inside_of Main) { carries = in_hand any false }
+      → location_then x (Took any none_left) ≡ record (inside_of Main) { has_taken = in_hand any false }
   pub may : (r : Rules) (s : Site) (t : ℕ) (whom : Option ℕ) (any none_left : Bool)
       → whom ≡ first_thread s.lock.queue
       → any ≡ not (is_none whom) → none_left ≡ is_empty (drop 1 s.lock.queue) → HasTakenNobody s.lock t
@@ -40,8 +40,8 @@ module _ (w : State) (t l : ℕ) (inductive : IsInductive w) (there : t < length
   is_now = location_is w t l inductive there own r rules x same_row ∙ g.was
 
   pub bare : carried_at (place_at w t) l ≡ None
-  bare = nothing_at (place_at w t) l (of_single l (place_at w t) own) (λ y. y.carries) refl
-      (ap (λ (y : Location). y.carries) is_now)
+  bare = nothing_at (place_at w t) l (of_single l (place_at w t) own) (λ y. y.has_taken) refl
+      (ap (λ (y : Location). y.has_taken) is_now)
 
   nobody : HasTakenNobody (lock_state w l) t
   nobody = in_no_hand w inductive t l (λ h. let e : ◌≡◌ {A = Option Bool} None (Some false) = sym bare ∙ h
@@ -53,7 +53,7 @@ module _ (w : State) (t l : ℕ) (inductive : IsInductive w) (there : t < length
   -- where it is then
   module _ (who : Option ℕ) (any none_left : Bool) (f : Followed who (Took any none_left)) where
     pub is_then : location (next_place (place_at w t) (Took any none_left)) ≡ record (inside_of Main)
-        { carries = in_hand any false }
+        { has_taken = in_hand any false }
     is_then = there_is w t l inductive there own r rules x same_row who (Took any none_left)
         (next_place (place_at w t) (Took any none_left)) f ∙ g.goes any none_left
 

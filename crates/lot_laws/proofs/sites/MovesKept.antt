@@ -20,7 +20,7 @@ use Imports.{state_after_reply, state_after_taking, state_after_take_first, stat
 use Imports.{sharers_in_hand, successor_from, want_of_successor, taken_at, acts, location, location_at, role_on}
 use Imports.{locations_of, ActsNeeded, AreWaiting, IsInductive, Goes, FitsItsLock, TakesOne, after_acts}
 use Imports.{rules_in, key_of, stood_in, carried_at, hand_at}
-use Rattle.steps_base.specs.declared.acts.TakeWhich as whom
+use Rattle.steps_base.specs.declared.acts.TakeWhich.TheVariants as whom
 use Rattle.steps_base.specs.Locations.{nowhere}
 use Rattle.spec_locks.specs.Locks as locks
 use Rattle.spec_locks.specs.Deeds as laws
@@ -201,10 +201,10 @@ module _ (w : State) (t l : ℕ) (inductive : IsInductive w) (there : t < length
 
     -- out of its own, where it has nobody in hand
     pub goes_out_alone : (p2 : Place) → key_of l m < length w.sections → (g : AreLeaving (x.deeds None Done))
-        → (location_of x).inside ≡ Some m → (location_of x).carries ≡ None → (location_of x).hand ≡ None
+        → (location_of x).inside ≡ Some m → (location_of x).has_taken ≡ None → (location_of x).hand ≡ None
         → location_then x Done ≡ record (location_of x) {
           inside = None;
-          carries = None;
+          has_taken = None;
         } → IsFollowed None Done p2
         → Goes w (put (state_with_sections w (One (key_of l m)) None) t p2) l (acts t (x.deeds None Done))
     goes_out_alone p2 line leaving within bare free out f = leave_goes w t l inductive own there r rules p2
@@ -217,7 +217,7 @@ module _ (w : State) (t l : ℕ) (inductive : IsInductive w) (there : t < length
               location_is ∙ free))
               (ap (λ y. taken_at y l) (put_here (place_at w) t p2) ∙ free_of p2 l (of_single l p2 f.of)
               (ap (λ (y : Location). y.hand) (there_is None Done p2 f ∙ out) ∙ free))
-              (lets_nobody (place_at w) inductive.stands.hands t l p2 (ap (λ (y : Location). y.carries)
+              (lets_nobody (place_at w) inductive.stands.hands t l p2 (ap (λ (y : Location). y.has_taken)
               (location_here l (place_at w t) own ∙ location_is) ∙ bare))
               (x.deeds None Done) leaving (ap (λ y. role_on y l) (put_here (place_at w) t p2)
               ∙ own_by None Done p2 f (x.deeds None Done) refl);
@@ -225,7 +225,7 @@ module _ (w : State) (t l : ℕ) (inductive : IsInductive w) (there : t < length
         })
         (there_is None Done p2 f ∙ out ∙ (λ i. record (location_of x) {
           inside = None;
-          carries = sym bare i;
+          has_taken = sym bare i;
         }) ∙ sym (ap (λ (y : Location). record y { inside = None }) location_is))
 
     -- A thread that goes out wakes each thread that it has in hand.
@@ -233,7 +233,7 @@ module _ (w : State) (t l : ℕ) (inductive : IsInductive w) (there : t < length
         → (location_of x).inside ≡ Some m → (location_of x).hand ≡ None → location_then x Done
         ≡ record (location_of x) {
           inside = None;
-          carries = None;
+          has_taken = None;
         } → IsFollowed None Done p2
         → ((u : ℕ) (b : Bool) → hand_at (place_at w u) l ≡ hand t b → IsWokenAt w t l Normal (place_at w u))
         → Goes w (put (state_after_telling (state_with_sections w (One (key_of l m)) None) t (Woken Normal)) t
@@ -242,7 +242,7 @@ module _ (w : State) (t l : ℕ) (inductive : IsInductive w) (there : t < length
     goes_out_waking p2 line leaving within free out f woken = wake_goes w t l inductive own there p2 f.of
         f.fits
         Normal woken (ap (λ (y : Location). y.hand) location_is ∙ free)
-        (ap (λ (y : Location). y.carries) (there_is None Done p2 f ∙ out))
+        (ap (λ (y : Location). y.has_taken) (there_is None Done p2 f ∙ out))
         (ap (λ (y : Location). y.hand) (there_is None Done p2 f ∙ out) ∙ free)
         m line (ap (λ (y : Location). y.inside) location_is ∙ within)
         (ap (λ (y : Location). y.stands) (there_is None Done p2 f ∙ out)
@@ -266,12 +266,12 @@ module _ (w : State) (t l : ℕ) (inductive : IsInductive w) (there : t < length
         → Goes w (put (state_after_leave w t (One (key_of l m)) wakes) t p2) l (acts t (x.deeds None Done))
     goes_out wakes p2 line g followed woken =
         subst (λ y. Goes w (put (state_after_leave w t (One (key_of l m)) y) t p2) l
-        (acts t (x.deeds None Done))) (sym g.notes) (either g.any g.carries)
+        (acts t (x.deeds None Done))) (sym g.notes) (either g.any g.has_taken)
       where
         f : IsFollowed None Done p2
         f = followed (left_hears wakes g)
 
-        either : (b : Bool) → (location_of x).carries ≡ in_hand b false
+        either : (b : Bool) → (location_of x).has_taken ≡ in_hand b false
             → Goes w (put (state_after_leave w t (One (key_of l m)) (wakes_taken b Normal)) t p2) l
             (acts t (x.deeds None Done))
         either false e = goes_out_alone p2 line g.deeds g.inside e g.free g.goes f
@@ -501,9 +501,9 @@ module _ (w : State) (t l : ℕ) (inductive : IsInductive w) (there : t < length
 
   module _ (asleep : (u : ℕ) → SleepsIfCalls u) where
     -- a thread that t has in hand is woken, and tries again, where t has handed nothing over
-    pub wakes_one : (any : Bool) → (location_of x).carries ≡ in_hand any false → (u : ℕ) (b : Bool)
+    pub wakes_one : (any : Bool) → (location_of x).has_taken ≡ in_hand any false → (u : ℕ) (b : Bool)
         → hand_at (place_at w u) l ≡ hand t b → IsWokenAt w t l Normal (place_at w u)
-    wakes_one any carries u b held = let k = by_calls (place_at w u) (asleep u).apart
+    wakes_one any has_taken u b held = let k = by_calls (place_at w u) (asleep u).apart
         (λ (y : Location). y.hand) (Of t b) refl held
         in by_sleeper (called (place_at w u) ((asleep u).sleeper k.0).single k.0) k.0 k.1
         ((asleep u).sleeper k.0)
@@ -518,11 +518,11 @@ module _ (w : State) (t l : ℕ) (inductive : IsInductive w) (there : t < length
         )
           where
             fresh : b ≡ false
-            fresh = by_any any (sym carries ∙ sym location_carries ∙ inductive.stands.hands.taken t u l b
+            fresh = by_any any (sym has_taken ∙ sym location_carries ∙ inductive.stands.hands.taken t u l b
                 held)
               where
-                location_carries : carried_at (place_at w t) l ≡ (location_of x).carries
-                location_carries = ap (λ (y : Location). y.carries) (location_here l (place_at w t) own
+                location_carries : carried_at (place_at w t) l ≡ (location_of x).has_taken
+                location_carries = ap (λ (y : Location). y.has_taken) (location_here l (place_at w t) own
                     ∙ location_is)
 
                 by_any : (c : Bool) → in_hand c false ≡ Some b → b ≡ false
@@ -830,13 +830,13 @@ module _ (w : State) (t l : ℕ) (inductive : IsInductive w) (there : t < length
             (aside_goes w t l inductive own there (next_place (place_at w t) (Took true true)) f.of f.fits
             many
             (ap (λ (y : Location). y.stands) (location_is ∙ g.was)) (ap (λ (y : Location). y.hand)
-            (location_is ∙ g.was)) (ap (λ (y : Location). y.carries) (location_is ∙ g.was)) r rules
+            (location_is ∙ g.was)) (ap (λ (y : Location). y.has_taken) (location_is ∙ g.was)) r rules
             hand_now (hand_then (Some y.thread) true true (ap first_of first))
             (ap (λ (y : Location). y.inside) is_then
             ∙ sym (ap (λ (y : Location). y.inside) (location_is ∙ g.was)))
             (ap (λ (y : Location). y.stands) is_then) (ap (λ (y : Location). y.hand) is_then)
             y first (writes_aside y [] first) line (sleeps_in Second y.thread g.was
-            (stands_aside y.thread first_there)) (ap (λ (y : Location). y.carries) is_then)
+            (stands_aside y.thread first_there)) (ap (λ (y : Location). y.has_taken) is_then)
             (needed_by (Some y.thread) (Took true true) (next_place (place_at w t) (Took true true)) f
             (Case (TakeAside y.thread) ∷ []) (g.deeds (Some y.thread) true true))
             (own_by (Some y.thread) (Took true true) (next_place (place_at w t) (Took true true)) f
@@ -846,7 +846,7 @@ module _ (w : State) (t l : ℕ) (inductive : IsInductive w) (there : t < length
             f = followed_by (Some y.thread) true true (ap first_of first)
 
             is_then : location (next_place (place_at w t) (Took true true)) ≡ record (inside_of Second)
-                { carries = Some false }
+                { has_taken = Some false }
             is_then = there_is (Some y.thread) (Took true true) (next_place (place_at w t) (Took true true)) f
                 ∙ g.goes true true
 
@@ -855,8 +855,8 @@ module _ (w : State) (t l : ℕ) (inductive : IsInductive w) (there : t < length
 
         pub takes_whom_aside : Goes w
             (put (state_after_take_first w t (2 * l + 1)) t
-            (next_place (place_at w t) (reply_to_take w t (2 * l + 1) whom.TheVariants.First))) l
-            (acts t (x.deeds here.lock.aside (reply_to_take w t (2 * l + 1) whom.TheVariants.First)))
+            (next_place (place_at w t) (reply_to_take w t (2 * l + 1) whom.First))) l
+            (acts t (x.deeds here.lock.aside (reply_to_take w t (2 * l + 1) whom.First)))
         takes_whom_aside = by_line (queue_at w (2 * l + 1)) refl
           where
             by_line : (q : List Waiter) → queue_at w (2 * l + 1) ≡ q
@@ -876,7 +876,7 @@ module _ (w : State) (t l : ℕ) (inductive : IsInductive w) (there : t < length
                 in let b : (length (drop 1 (queue_at w (2 * l + 1))) == 0) ≡ true =
                 ap (λ (q : List Waiter). length (drop 1 q) == 0) one in rw (a, b) (takes_writer y one)
 
-      -- ---------------------------------------------------------------- those that are picked
+      -- ---------------------------------------------------------------- threads that are picked
 
       module _ (many : TakesOne w l → ⊥) (line : key_of l Main < length w.queues) (start : Option Want)
           (g : Picks x hears start)
@@ -890,13 +890,13 @@ module _ (w : State) (t l : ℕ) (inductive : IsInductive w) (there : t < length
         others = without_lock_picked start (is_recursive r.sort) (2 * l) (queue_at w (2 * l))
 
         abbrev taken_state : State
-        taken_state = state_after_take w t (2 * l) (whom.TheVariants.Picked start (is_recursive r.sort))
+        taken_state = state_after_take w t (2 * l) (whom.Picked start (is_recursive r.sort))
 
         abbrev any : Bool
         any = any_in t 0 taken_state.places
 
         abbrev told_picked : Reply
-        told_picked = reply_to_take w t (2 * l) (whom.TheVariants.Picked start (is_recursive r.sort))
+        told_picked = reply_to_take w t (2 * l) (whom.Picked start (is_recursive r.sort))
 
         abbrev then_at : Place
         then_at = next_place (place_at w t) told_picked
@@ -939,7 +939,7 @@ module _ (w : State) (t l : ℕ) (inductive : IsInductive w) (there : t < length
             let a : carried_at (place_at w t) k.lock ≡ Some k.handed = inductive.stands.hands.taken t u k.lock
             k.handed k.hand in
             let b : carried_at (place_at w t) k.lock ≡ None = nothing_at (place_at w t) k.lock
-            (of_single l (place_at w t) own) (λ y. y.carries) refl (ap (λ (y : Location). y.carries)
+            (of_single l (place_at w t) own) (λ y. y.has_taken) refl (ap (λ (y : Location). y.has_taken)
             (location_is ∙ g.was)) in
             let both : ◌≡◌ {A = Option Bool} None (Some k.handed) = sym b ∙ a in cc
 
@@ -987,7 +987,7 @@ module _ (w : State) (t l : ℕ) (inductive : IsInductive w) (there : t < length
         picks_follow = followed (sharers_in_hand t taken_state.places)
             (want_of_successor (successor_from t 0 taken_state.places)) (length others == 0) picked_hears
 
-        goes_then : location then_at ≡ record (inside_of Main) { carries = in_hand any false }
+        goes_then : location then_at ≡ record (inside_of Main) { has_taken = in_hand any false }
         goes_then = there_is None told_picked then_at picks_follow
             ∙ g.goes (sharers_in_hand t taken_state.places)
             (want_of_successor (successor_from t 0 taken_state.places)) (length others == 0)
@@ -996,9 +996,9 @@ module _ (w : State) (t l : ℕ) (inductive : IsInductive w) (there : t < length
         picked_deeds = g.deeds (sharers_in_hand t taken_state.places)
             (want_of_successor (successor_from t 0 taken_state.places)) (length others == 0)
 
-        carries_then : (b : Bool) → (location then_at).carries ≡ Some b → (b ≡ false)
+        carries_then : (b : Bool) → (location then_at).has_taken ≡ Some b → (b ≡ false)
             × ((u : ℕ) × (member u chosen ≡ true))
-        carries_then b h = by_any any refl (sym (ap (λ (y : Location). y.carries) goes_then) ∙ h)
+        carries_then b h = by_any any refl (sym (ap (λ (y : Location). y.has_taken) goes_then) ∙ h)
           where
             by_any : (c : Bool) → any ≡ c → in_hand c false ≡ Some b → (b ≡ false)
                 × ((u : ℕ) × (member u chosen ≡ true))
@@ -1009,14 +1009,14 @@ module _ (w : State) (t l : ℕ) (inductive : IsInductive w) (there : t < length
         takes_chosen = subst (λ ds. Goes w (put taken_state t then_at) l (acts t ds)) (sym picked_deeds)
             (picked_goes w t l inductive own there then_at picks_follow.of picks_follow.fits many
             (ap (λ (y : Location). y.stands) (location_is ∙ g.was)) (ap (λ (y : Location). y.hand)
-            (location_is ∙ g.was)) (ap (λ (y : Location). y.carries) (location_is ∙ g.was)) r rules
+            (location_is ∙ g.was)) (ap (λ (y : Location). y.has_taken) (location_is ∙ g.was)) r rules
             (free_of (place_at w t) l (of_single l (place_at w t) own) (ap (λ (y : Location). y.hand)
             (location_is ∙ g.was))) (free_of then_at l (of_single l then_at picks_follow.of)
             (ap (λ (y : Location). y.hand) goes_then))
             (ap (λ (y : Location). y.inside) goes_then
             ∙ sym (ap (λ (y : Location). y.inside) (location_is ∙ g.was)))
             (ap (λ (y : Location). y.stands) goes_then) (ap (λ (y : Location). y.hand) goes_then)
-            start line sleeps_chosen carries_then (λ u h. ap (λ (y : Location). y.carries) goes_then
+            start line sleeps_chosen carries_then (λ u h. ap (λ (y : Location). y.has_taken) goes_then
             ∙ ap (λ b. in_hand b false) (some_picked u h))
             (needed_by None told_picked then_at picks_follow (Case (TakePicked start) ∷ []) picked_deeds)
             (own_by None told_picked then_at picks_follow (Case (TakePicked start) ∷ []) picked_deeds))

@@ -9,7 +9,7 @@ use Imports.{queued_of, profile_at, AreCondvars, condvar_of, inside_as, IsInduct
 use Imports.{rules_in, key_of, carried_at, hand_at, idle_at, none_at, empty_at, nobody_owns, no_readers}
 use Imports.{opening_shares, both, few_permits, new_words, new_site}
 use Rattle.std.proofs.Common.{sum, nat_le}
-use Rattle.spec_locks.specs.declared.kinds.Kind as kind
+use Rattle.spec_locks.specs.declared.kinds.Kind.TheVariants as kind
 use Rattle.spec_locks.specs.Locks as sorts
 use Rattle.lot_laws.proofs.machine.Parts.{past_all, seen_by}
 
@@ -51,15 +51,15 @@ limit_fits n limit some h =
     (omega arith, omega arith, a)
 
 room : (k : Kind) (n : ℕ) → 1 ≤ n → fits k n ≡ true → is_full (rules_of k) (opening_lock n) ≡ true → ⊥
-room (kind.TheVariants.RwLock limit) n some h full = limit_leaves_room n limit some h full
-room (kind.TheVariants.Recursive limit) n some h full = limit_leaves_room n limit some h full
-room kind.TheVariants.Mutex n some h full = cc
-room kind.TheVariants.Fair n some h full = cc
+room (kind.RwLock limit) n some h full = limit_leaves_room n limit some h full
+room (kind.Recursive limit) n some h full = limit_leaves_room n limit some h full
+room kind.Mutex n some h full = cc
+room kind.Fair n some h full = cc
 room k n some h full = cc
 
 first_there : (kinds : List Kind) (l : ℕ)
-    → (get_or (map unlocked kinds) l (unlocked kind.TheVariants.Mutex)).word
-    ≡ first_word (get_or (map unlocked kinds) l (unlocked kind.TheVariants.Mutex)).kind
+    → (get_or (map unlocked kinds) l (unlocked kind.Mutex)).word
+    ≡ first_word (get_or (map unlocked kinds) l (unlocked kind.Mutex)).kind
 first_there [] l = refl
 first_there (x ∷ xs) zero = refl
 first_there (x ∷ xs) (suc l) = first_there xs l
@@ -67,13 +67,13 @@ first_there (x ∷ xs) (suc l) = first_there xs l
 -- The permits of a new semaphore can be counted.
 countable : (k : Kind) (n : ℕ) → fits k n ≡ true → (rules_of k).sort ≡ sorts.Semaphore → (rules_of k).limit
     ≤ 2 ^ 62
-countable (kind.TheVariants.Semaphore permits) n h e = few_permits permits h
-countable kind.TheVariants.Mutex n h e = absurd cc
-countable kind.TheVariants.Fair n h e = absurd cc
-countable (kind.TheVariants.RwLock limit) n h e = absurd cc
-countable (kind.TheVariants.Recursive limit) n h e = absurd cc
-countable kind.TheVariants.Condvar n h e = absurd cc
-countable kind.TheVariants.Once n h e = absurd cc
+countable (kind.Semaphore permits) n h e = few_permits permits h
+countable kind.Mutex n h e = absurd cc
+countable kind.Fair n h e = absurd cc
+countable (kind.RwLock limit) n h e = absurd cc
+countable (kind.Recursive limit) n h e = absurd cc
+countable kind.Condvar n h e = absurd cc
+countable kind.Once n h e = absurd cc
 
 opening_permits : (k : Kind) (n : ℕ) → HasPermits (rules_of k) (new_site k n)
 opening_permits k n = record {
@@ -83,14 +83,14 @@ opening_permits k n = record {
 }
 
 pub kind_is : (kinds : List Kind) (l : ℕ)
-    → (get_or (map unlocked kinds) l (unlocked kind.TheVariants.Mutex)).kind ≡ get_or kinds l
-    kind.TheVariants.Mutex
+    → (get_or (map unlocked kinds) l (unlocked kind.Mutex)).kind ≡ get_or kinds l
+    kind.Mutex
 kind_is [] l = refl
 kind_is (x ∷ xs) zero = refl
 kind_is (x ∷ xs) (suc l) = kind_is xs l
 
 pub unfilled_0 : (kinds : List Kind) (l : ℕ)
-    → (get_or (map unlocked kinds) l (unlocked kind.TheVariants.Mutex)).filled ≡ false
+    → (get_or (map unlocked kinds) l (unlocked kind.Mutex)).filled ≡ false
 unfilled_0 [] l = refl
 unfilled_0 (x ∷ xs) zero = refl
 unfilled_0 (x ∷ xs) (suc l) = unfilled_0 xs l
@@ -98,10 +98,10 @@ unfilled_0 (x ∷ xs) (suc l) = unfilled_0 xs l
 -- a number of readers that a word can count
 roomy : (k : Kind) (n : ℕ) → 1 ≤ n → fits k n ≡ true → has_readers (rules_of k).sort ≡ true
     → LimitHasRoom n (rules_of k)
-roomy (kind.TheVariants.RwLock limit) n some h r = limit_fits n limit some h
-roomy (kind.TheVariants.Recursive limit) n some h r = limit_fits n limit some h
-roomy kind.TheVariants.Mutex n some h r = absurd cc
-roomy kind.TheVariants.Fair n some h r = absurd cc
+roomy (kind.RwLock limit) n some h r = limit_fits n limit some h
+roomy (kind.Recursive limit) n some h r = limit_fits n limit some h
+roomy kind.Mutex n some h r = absurd cc
+roomy kind.Fair n some h r = absurd cc
 roomy k n some h r = absurd cc
 
 -- nobody shares
@@ -119,8 +119,8 @@ module _ (kinds : List Kind) (threads : ℕ) where
 
   kinds_fit : All (λ k. fits k threads ≡ true) kinds → (l : ℕ) → fits (kind_at first l) threads ≡ true
   kinds_fit all l = rw (kind_is kinds l) (elim (cases_lt l (length kinds)) [
-    | inl lt ↦ all l kind.TheVariants.Mutex lt
-    | inr ge ↦ rw (past_all kinds l kind.TheVariants.Mutex ge) refl
+    | inl lt ↦ all l kind.Mutex lt
+    | inr ge ↦ rw (past_all kinds l kind.Mutex ge) refl
   ])
 
   opening_seen : (l : ℕ) → site_of first l ≡ new_site (kind_at first l) (length first.places)
@@ -185,7 +185,7 @@ module _ (kinds : List Kind) (threads : ℕ) where
       waits = λ l m. rw (empty_at (2 * length kinds) (key_of l m)) tt;
       hands = record {
         carried = λ t l b h. absurd (let a : carried_at (place_at first t) l ≡ None =
-            ap (λ s. s.carries) (stands_nowhere t l) in cc);
+            ap (λ s. s.has_taken) (stands_nowhere t l) in cc);
         alone = λ t l u v b c o h. absurd (let a : hand_at (place_at first u) l ≡ None =
             ap (λ s. s.hand) (stands_nowhere u l) in cc);
         taken = λ t u l b h. absurd (let a : hand_at (place_at first u) l ≡ None =

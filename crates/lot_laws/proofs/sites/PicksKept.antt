@@ -11,7 +11,7 @@ use Imports.{place_at, queue_at, put, state_after_take, state_after_reply, queue
 use Imports.{told_count, taken_at, acts, location, role_on, locations_of, ActsNeeded, AreWaiting, TakesOne}
 use Imports.{IsInductive, Goes, FitsItsLock, after_acts, rules_in, key_of}
 use Rattle.core_base.specs.Picks.{picked}
-use Rattle.steps_base.specs.declared.acts.TakeWhich as whom
+use Rattle.steps_base.specs.declared.acts.TakeWhich.TheVariants as whom
 use Rattle.spec_locks.specs.Locks as locks
 use Rattle.lot_laws.specs.Locations.{Location}
 use Rattle.lot_laws.proofs.machine.Parts.{put_places, same, location_here, IsOf}
@@ -129,7 +129,7 @@ module _ (w : State) (t l : ℕ) (inductive : IsInductive w) (own : IsOf l (plac
     < length w.places) (p2 : Place)
     (of : IsOf l p2) (fits : FitsItsLock w p2) (many : TakesOne w l → ⊥)
     (out : (location (place_at w t)).stands ≡ None) (free : (location (place_at w t)).hand ≡ None)
-    (bare : (location (place_at w t)).carries ≡ None) (r : Rules) (rules : rules_in w l ≡ r)
+    (bare : (location (place_at w t)).has_taken ≡ None) (r : Rules) (rules : rules_in w l ≡ r)
     (none : taken_at (place_at w t) l ≡ None) (none2 : taken_at p2 l ≡ None)
     (inside : (location p2).inside ≡ (location (place_at w t)).inside) (stands : (location p2).stands ≡ None)
     (unheld : (location p2).hand ≡ None) where
@@ -148,11 +148,11 @@ module _ (w : State) (t l : ℕ) (inductive : IsInductive w) (own : IsOf l (plac
     under = under_of (locations_of (place_at w)) l Main (queue_at w (2 * l)) (inductive.stands.waits l Main)
 
     pub picked_goes : ((u : ℕ) → member u picks ≡ true → IsTakenFrom w t l Main (place_at w u))
-        → ((b : Bool) → (location p2).carries ≡ Some b → (b ≡ false) × ((u : ℕ) × (member u picks ≡ true)))
-        → ((u : ℕ) → member u picks ≡ true → (location p2).carries ≡ Some false)
+        → ((b : Bool) → (location p2).has_taken ≡ Some b → (b ≡ false) × ((u : ℕ) × (member u picks ≡ true)))
+        → ((u : ℕ) → member u picks ≡ true → (location p2).has_taken ≡ Some false)
         → ActsNeeded r (acts t (Case (TakePicked start) ∷ [])) (lock_by w l r)
         → role_on p2 l ≡ (after_acts r (acts t (Case (TakePicked start) ∷ [])) (lock_by w l r)).role t
-        → Goes w (put (state_after_take w t (2 * l) (whom.TheVariants.Picked start (is_recursive r.sort))) t
+        → Goes w (put (state_after_take w t (2 * l) (whom.Picked start (is_recursive r.sort))) t
         p2) l
         (acts t (Case (TakePicked start) ∷ []))
     picked_goes sleeps some full needed own_is = take_goes w t l inductive own there p2 of fits many Main
@@ -180,7 +180,7 @@ module _ (w : State) (t l : ℕ) (inductive : IsInductive w) (own : IsOf l (plac
         refl refl (noted r (lock_by w l r) (site_by w t l inductive own there r rules p2 of fits)) own_is
       where
         v : State
-        v = put (state_after_take w t (2 * l) (whom.TheVariants.Picked start (is_recursive r.sort))) t p2
+        v = put (state_after_take w t (2 * l) (whom.Picked start (is_recursive r.sort))) t p2
 
         threads : length v.places ≡ length w.places
         threads = length-set (places_told (TakenBy t) (threads_of picks) w.places) t p2
@@ -188,7 +188,7 @@ module _ (w : State) (t l : ℕ) (inductive : IsInductive w) (own : IsOf l (plac
 
         places : place_at v ≡ putting (told_by (TakenBy t) picks (place_at w)) t p2
         places = put_places (state_after_take w t (2 * l)
-            (whom.TheVariants.Picked start (is_recursive r.sort))) t p2
+            (whom.Picked start (is_recursive r.sort))) t p2
             (past (length (places_told (TakenBy t) (threads_of picks) w.places))
             (told_count (TakenBy t) (threads_of picks) w.places))
             ∙ ap (λ (f : ℕ → Place). putting f t p2) (told_places (TakenBy t) picks w.places)
@@ -196,12 +196,12 @@ module _ (w : State) (t l : ℕ) (inductive : IsInductive w) (own : IsOf l (plac
   -- all of the main queue
   module _ (some_line : 2 * l < length w.queues) where
     pub all_goes : ((u : ℕ) → member u (queue_at w (2 * l)) ≡ true → IsTakenFrom w t l Main (place_at w u))
-        → ((b : Bool) → (location p2).carries ≡ Some b → (b ≡ false)
+        → ((b : Bool) → (location p2).has_taken ≡ Some b → (b ≡ false)
         × ((u : ℕ) × (member u (queue_at w (2 * l)) ≡ true)))
-        → ((u : ℕ) → member u (queue_at w (2 * l)) ≡ true → (location p2).carries ≡ Some false)
+        → ((u : ℕ) → member u (queue_at w (2 * l)) ≡ true → (location p2).has_taken ≡ Some false)
         → ActsNeeded r (acts t (Case (OfOnce TakeAll) ∷ [])) (lock_by w l r)
         → role_on p2 l ≡ (after_acts r (acts t (Case (OfOnce TakeAll) ∷ [])) (lock_by w l r)).role t
-        → Goes w (put (state_after_take w t (2 * l) whom.TheVariants.All) t p2) l
+        → Goes w (put (state_after_take w t (2 * l) whom.All) t p2) l
         (acts t (Case (OfOnce TakeAll) ∷ []))
     all_goes sleeps some full needed own_is = take_goes w t l inductive own there p2 of fits many Main
         (queue_at w (2 * l)) []
@@ -217,14 +217,14 @@ module _ (w : State) (t l : ℕ) (inductive : IsInductive w) (own : IsOf l (plac
         refl refl refl (noted r (lock_by w l r) (site_by w t l inductive own there r rules p2 of fits)) own_is
       where
         v : State
-        v = put (state_after_take w t (2 * l) whom.TheVariants.All) t p2
+        v = put (state_after_take w t (2 * l) whom.All) t p2
 
         threads : length v.places ≡ length w.places
         threads = length-set (places_told (TakenBy t) (threads_of (queue_at w (2 * l))) w.places) t p2
             ∙ told_count (TakenBy t) (threads_of (queue_at w (2 * l))) w.places
 
         places : place_at v ≡ putting (told_by (TakenBy t) (queue_at w (2 * l)) (place_at w)) t p2
-        places = put_places (state_after_take w t (2 * l) whom.TheVariants.All) t p2
+        places = put_places (state_after_take w t (2 * l) whom.All) t p2
             (past (length (places_told (TakenBy t) (threads_of (queue_at w (2 * l))) w.places))
             (told_count (TakenBy t) (threads_of (queue_at w (2 * l))) w.places))
             ∙ ap (λ (f : ℕ → Place). putting f t p2) (told_places (TakenBy t) (queue_at w (2 * l)) w.places)
@@ -232,14 +232,14 @@ module _ (w : State) (t l : ℕ) (inductive : IsInductive w) (own : IsOf l (plac
   -- the writer aside
   module _ (x : Waiter) (first : queue_at w (2 * l + 1) ≡ x ∷ []) (writes : x.want ≡ Exclusive)
       (some_line : 2 * l + 1 < length w.queues) where
-    pub aside_goes : IsTakenFrom w t l Second (place_at w x.thread) → (location p2).carries ≡ Some false
+    pub aside_goes : IsTakenFrom w t l Second (place_at w x.thread) → (location p2).has_taken ≡ Some false
         → ActsNeeded r (acts t (Case (TakeAside x.thread) ∷ [])) (lock_by w l r)
         → role_on p2 l ≡ (after_acts r (acts t (Case (TakeAside x.thread) ∷ [])) (lock_by w l r)).role t
         → Goes w
         (put (state_after_reply (record w { queues = queues_without_first w.queues (2 * l + 1) }) x.thread
         (TakenBy t)) t p2) l
         (acts t (Case (TakeAside x.thread) ∷ []))
-    aside_goes sleeps carries needed own_is = take_goes w t l inductive own there p2 of fits many Second
+    aside_goes sleeps has_taken needed own_is = take_goes w t l inductive own there p2 of fits many Second
         (x ∷ [])
         []
         (record {
@@ -253,8 +253,8 @@ module _ (w : State) (t l : ℕ) (inductive : IsInductive w) (own : IsOf l (plac
         (get_or-set_same w.queues (2 * l + 1) (drop 1 (queue_at w (2 * l + 1))) [] some_line
         ∙ ap (drop 1) first) (λ key ne. get_or-set_other w.queues (2 * l + 1) key
         (drop 1 (queue_at w (2 * l + 1))) [] ne) inside stands unheld
-        (λ b e. let f : Some false ≡ Some b = sym carries ∙ e in let g : false ≡ b = cc
-        in (sym g, (x.thread, same_one))) (λ u h. carries)
+        (λ b e. let f : Some false ≡ Some b = sym has_taken ∙ e in let g : false ≡ b = cc
+        in (sym g, (x.thread, same_one))) (λ u h. has_taken)
         (Case (TakeAside x.thread)) (tt, tt) ((λ h. h), tt) needed
         (λ i. record (lock_by w l r).lock {
           aside = None;

@@ -11,10 +11,10 @@ use Imports.{mutex_location, acts, location_at, role_on, SameNumbers, TakesOne, 
 use Imports.{IsInductive, SiteFollows, Goes, FitsItsLock, carried_at, hand_at, after_acts, cases_eq}
 use Imports.{locations_of, Hands, is_mutex}
 use Rattle.core_base.specs.declared.ops.Op.TheVariants as op
-use Rattle.spec_locks.specs.declared.kinds.Kind as kind
+use Rattle.spec_locks.specs.declared.kinds.Kind.TheVariants as kind
 use Rattle.steps_mutex.specs.declared.places.MutexPlace.TheVariants.{HandOff}
 use Rattle.steps_mutex.specs.declared.hand_off.HandOffAt.TheVariants as hand_off
-use Rattle.steps_base.specs.declared.acts.Act as act
+use Rattle.steps_base.specs.declared.acts.Act.TheVariants as act
 use Rattle.lot_laws.proofs.sites.ToldAt as told_at
 use Rattle.lot_laws.proofs.sites.ToldAt.{IsToldAt, HeldHere, same_hands}
 use Rattle.lot_laws.proofs.sites.ActsKept.{AlikeAt, follows_by, lock_by}
@@ -165,10 +165,10 @@ module _ (w : State) (t l : ℕ) (at : MutexPlace) (inductive : IsInductive w) (
 module _ (w : State) (t l : ℕ) (inductive : IsInductive w) (there : t < length w.places) where
   -- a thread that it has in hand
   module _ (at : MutexPlace) (is : place_at w t ≡ Mutex l at) (b : Bool)
-      (carries : (mutex_location at).carries ≡ Some b) where
+      (has_taken : (mutex_location at).has_taken ≡ Some b) where
     pub one_held : (u : ℕ) × (hand_at (place_at w u) l ≡ hand t b)
-    one_held = inductive.stands.hands.carried t l b (ap (λ (x : Location). x.carries)
-        (own_stance l (place_at w t) at is) ∙ carries)
+    one_held = inductive.stands.hands.carried t l b (ap (λ (x : Location). x.has_taken)
+        (own_stance l (place_at w t) at is) ∙ has_taken)
 
   module _ (lt : l < length w.locks) (bumps none_left : Bool) (u : ℕ)
       (is : place_at w t ≡ Mutex l (HandOff bumps (hand_off.Store true none_left)))
@@ -212,7 +212,7 @@ module _ (w : State) (t l : ℕ) (inductive : IsInductive w) (there : t < length
 
     fresh : (x : ℕ) (b : Bool) → hand_at (place_at w x) l ≡ hand t b → b ≡ false
     fresh x b h = let a : carried_at (place_at w t) l ≡ Some b = inductive.stands.hands.taken t x l b h
-        in let c : carried_at (place_at w t) l ≡ Some false = ap (λ (y : Location). y.carries) before_t
+        in let c : carried_at (place_at w t) l ≡ Some false = ap (λ (y : Location). y.has_taken) before_t
         in let e : Some b ≡ Some false = sym a ∙ c in cc
 
     -- only its owner claims the mutex
@@ -282,9 +282,9 @@ module _ (w : State) (t l : ℕ) (inductive : IsInductive w) (there : t < length
         (ap (λ (y : Location). y.hand) now_t
         ∙ sym (ap (λ c. if c then hand t true else (location_at (place_at w t) l).hand) not_told
         ∙ ap (λ (y : Location). y.hand) before_t)))
-        (λ i k. told_at.carries w t l inductive p2 beside fits_2 holds (hand_over_told w t l) (hand t true)
+        (λ i k. told_at.has_taken w t l inductive p2 beside fits_2 holds (hand_over_told w t l) (hand t true)
         all_told i k ∙ ap (λ c. if (i == t) && (k == l) then c else carried_at (place_at w i) k)
-        (ap (λ (y : Location). y.carries) now_t))
+        (ap (λ (y : Location). y.has_taken) now_t))
         (λ x h. let k : HeldHere w t l inductive p2 beside fits_2 holds (hand_over_told w t l) (hand t true)
         all_told x = told_at.held_here w t l inductive p2 beside fits_2 holds (hand_over_told w t l)
         (hand t true) all_told x h in (k.handed, k.hand))
@@ -301,12 +301,12 @@ module _ (w : State) (t l : ℕ) (inductive : IsInductive w) (there : t < length
 
     owners_given : Changed (owners_at w) (owners_at after) l (with_exclusive (owners_at w l) (Some u))
     owners_given = record {
-      here = ap (λ x. x.owners) (get_or-set_same w.locks l _ (unlocked kind.TheVariants.Mutex) lt)
+      here = ap (λ x. x.owners) (get_or-set_same w.locks l _ (unlocked kind.Mutex) lt)
           ∙ successor_one w t l u false (aparts w inductive) inductive.stands.hands
           (single w t l at inductive is there) (of_carries l (place_at w t) own_t) held
           (alone_at w t l at inductive is) (unshared_at w t l at inductive is) (with_exclusive (owners_at w l)
           None);
-      other = λ k ne. ap (λ x. x.owners) (get_or-set_other w.locks l k _ (unlocked kind.TheVariants.Mutex)
+      other = λ k ne. ap (λ x. x.owners) (get_or-set_other w.locks l k _ (unlocked kind.Mutex)
           ne);
     }
 
@@ -331,7 +331,7 @@ module _ (w : State) (t l : ℕ) (inductive : IsInductive w) (there : t < length
         (Some u)) (mutex_at w l)
         → Goes w
         (go_by w t (Mutex l (HandOff bumps (hand_off.Store true none_left)))
-        (act.TheVariants.HandOver l (op.Store (hand_off_word true none_left)))) l
+        (act.HandOver l (op.Store (hand_off_word true none_left)))) l
         (acts t (deeds.handing_deeds (Some u) none_left) ++ deeds.claims_of (Some u))
     hands_over needed = record {
       follows = subst (λ (z : State). SiteFollows w (put z t p2) l
@@ -352,7 +352,7 @@ module _ (w : State) (t l : ℕ) (inductive : IsInductive w) (there : t < length
             filled = given_filled w t (Mutex l at) l (op.Store (hand_off_word true none_left))
                 (rules w t l at inductive is there) k i;
           })
-          (changed_set (λ x. x.word) w.locks l _ (unlocked kind.TheVariants.Mutex) lt) owners_given
+          (changed_set (λ x. x.word) w.locks l _ (unlocked kind.Mutex) lt) owners_given
           (unchanged (λ k. queue_at w (2 * k)) l) (λ k. refl) same_kinds
           (λ k ne x. alike_both l k (place_at w) u pu t p2 (there_u.handed (unshared_then w t l)).others
           (own_alike l (place_at w t) p2 own_t refl) apart ne x)

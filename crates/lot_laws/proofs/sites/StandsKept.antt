@@ -221,7 +221,7 @@ waits_same p q queue after h e lines l m = waiting_same p q l m (after (key_of l
 -- ---------------------------------------------------------------- hands
 
 pub hands_same : {one : ℕ → Type 0} (p q : ℕ → ℕ → Location) → HandsBy one p
-    → ((u k : ℕ) → (q u k).carries ≡ (p u k).carries)
+    → ((u k : ℕ) → (q u k).has_taken ≡ (p u k).has_taken)
     → ((u k : ℕ) → (q u k).hand ≡ (p u k).hand) → HandsBy one q
 hands_same p q h c n = record {
   carried = λ t l b e. let one = h.carried t l b (sym (c t l) ∙ e) in (one.0, n one.0 l ∙ one.1);
@@ -254,31 +254,31 @@ module _ (one : ℕ → Type 0) (p q : ℕ → ℕ → Location) (hands : HandsB
   -- t has taken them, which were in nobody's hand, and no more than one where it takes one at a time
   module _ (single : one l → (u v : ℕ) → has u ≡ true → has v ≡ true → u ≡ v) (c : Option Bool)
       (in_hand : (u k : ℕ) → (q u k).hand ≡ (if meant u k then hand t false else (p u k).hand))
-      (carries : (i k : ℕ) → (q i k).carries ≡ (if taking i k then c else (p i k).carries))
-      (bare : (p t l).carries ≡ None) (free : (u : ℕ) → has u ≡ true → (p u l).hand ≡ None) (some : (b : Bool)
+      (has_taken : (i k : ℕ) → (q i k).has_taken ≡ (if taking i k then c else (p i k).has_taken))
+      (bare : (p t l).has_taken ≡ None) (free : (u : ℕ) → has u ≡ true → (p u l).hand ≡ None) (some : (b : Bool)
       → c ≡ Some b → (b ≡ false) × ((u : ℕ) × (has u ≡ true))) (full : (u : ℕ) → has u ≡ true
       → c ≡ Some false) where
-    taken_then_many : (i u k : ℕ) (b : Bool) → (q u k).hand ≡ hand i b → (q i k).carries ≡ Some b
+    taken_then_many : (i u k : ℕ) (b : Bool) → (q u k).hand ≡ hand i b → (q i k).has_taken ≡ Some b
     taken_then_many i u k b h = by_meant (meant u k) refl (sym (in_hand u k) ∙ h)
       where
-        by_taking : (x : Bool) → taking i k ≡ x → (p u k).hand ≡ hand i b → (q i k).carries ≡ Some b
-        by_taking true e g = absurd (let at_l = taking_is i k e in let was : (p i k).carries ≡ Some b =
-            hands.taken i u k b g in let none : (p i k).carries ≡ None = rw (at_l.0, at_l.1) bare
+        by_taking : (x : Bool) → taking i k ≡ x → (p u k).hand ≡ hand i b → (q i k).has_taken ≡ Some b
+        by_taking true e g = absurd (let at_l = taking_is i k e in let was : (p i k).has_taken ≡ Some b =
+            hands.taken i u k b g in let none : (p i k).has_taken ≡ None = rw (at_l.0, at_l.1) bare
             in let f : ◌≡◌ {A = Option Bool} None (Some b) = sym none ∙ was in cc)
-        by_taking false e g = carries i k ∙ ap (λ x. if x then c else (p i k).carries) e
+        by_taking false e g = has_taken i k ∙ ap (λ x. if x then c else (p i k).has_taken) e
             ∙ hands.taken i u k b g
 
         by_meant : (x : Bool) → meant u k ≡ x → (if x then hand t false else (p u k).hand) ≡ hand i b
-            → (q i k).carries ≡ Some b
+            → (q i k).has_taken ≡ Some b
         by_meant true e g = let at_l = meant_is u k e in let who : t ≡ i = cc in let which : false ≡ b = cc in
             let mine : taking i k ≡ true = taking_here i k who at_l.1 in
-            carries i k ∙ ap (λ x. if x then c else (p i k).carries) mine ∙ full u at_l.0 ∙ ap Some which
+            has_taken i k ∙ ap (λ x. if x then c else (p i k).has_taken) mine ∙ full u at_l.0 ∙ ap Some which
         by_meant false e g = by_taking (taking i k) refl g
 
-    carried_then_many : (i k : ℕ) (b : Bool) → (q i k).carries ≡ Some b → (u : ℕ) × ((q u k).hand ≡ hand i b)
-    carried_then_many i k b h = by_taking (taking i k) refl (sym (carries i k) ∙ h)
+    carried_then_many : (i k : ℕ) (b : Bool) → (q i k).has_taken ≡ Some b → (u : ℕ) × ((q u k).hand ≡ hand i b)
+    carried_then_many i k b h = by_taking (taking i k) refl (sym (has_taken i k) ∙ h)
       where
-        by_taking : (x : Bool) → taking i k ≡ x → (if x then c else (p i k).carries) ≡ Some b
+        by_taking : (x : Bool) → taking i k ≡ x → (if x then c else (p i k).has_taken) ≡ Some b
             → (u : ℕ) × ((q u k).hand ≡ hand i b)
         by_taking true e g = let at_l = taking_is i k e in let s = some b g in (
           s.1.0,
@@ -302,8 +302,8 @@ module _ (one : ℕ → Type 0) (p q : ℕ → ℕ → Location) (hands : HandsB
 
     -- a thread that was in no hand of t at the lock isn't in one now but by this
     not_before : (k : ℕ) (d : Bool) (v : ℕ) → k ≡ l → (p v k).hand ≡ hand t d → ⊥
-    not_before k d v e held = let was : (p t k).carries ≡ Some d = hands.taken t v k d held
-        in let none : (p t k).carries ≡ None = rw e bare in let f : ◌≡◌ {A = Option Bool} None (Some d) =
+    not_before k d v e held = let was : (p t k).has_taken ≡ Some d = hands.taken t v k d held
+        in let none : (p t k).has_taken ≡ None = rw e bare in let f : ◌≡◌ {A = Option Bool} None (Some d) =
         sym none ∙ was in cc
 
     alone_then_many : (i k u j : ℕ) (b d : Bool) → one k → (q u k).hand ≡ hand i b → (q j k).hand ≡ hand i d
@@ -327,7 +327,7 @@ module _ (one : ℕ → Type 0) (p q : ℕ → ℕ → Location) (hands : HandsB
 
   -- t lets go each thread that it has in hand
   module _ (in_hand : (u k : ℕ) → (q u k).hand ≡ (if meant u k then None else (p u k).hand))
-      (carries : (i k : ℕ) → (q i k).carries ≡ (if taking i k then None else (p i k).carries))
+      (has_taken : (i k : ℕ) → (q i k).has_taken ≡ (if taking i k then None else (p i k).has_taken))
       (mine : (u : ℕ) → has u ≡ true → (b : Bool) × ((p u l).hand ≡ hand t b)) (all : (u : ℕ) (b : Bool)
       → (p u l).hand ≡ hand t b → has u ≡ true) where
     -- a thread that is in a hand after it was so before
@@ -338,14 +338,14 @@ module _ (one : ℕ → Type 0) (p q : ℕ → ℕ → Location) (hands : HandsB
         either true g = absurd cc
         either false g = g
 
-    taken_then_free : (i u k : ℕ) (b : Bool) → (q u k).hand ≡ hand i b → (q i k).carries ≡ Some b
+    taken_then_free : (i u k : ℕ) (b : Bool) → (q u k).hand ≡ hand i b → (q i k).has_taken ≡ Some b
     taken_then_free i u k b h = by_taking (taking i k) refl
       where
         held : (p u k).hand ≡ hand i b
         held = was_held i u k b h
 
-        by_taking : (x : Bool) → taking i k ≡ x → (q i k).carries ≡ Some b
-        by_taking false e = carries i k ∙ ap (λ x. if x then None else (p i k).carries) e
+        by_taking : (x : Bool) → taking i k ≡ x → (q i k).has_taken ≡ Some b
+        by_taking false e = has_taken i k ∙ ap (λ x. if x then None else (p i k).has_taken) e
             ∙ hands.taken i u k b held
         by_taking true e = absurd (let at_l = taking_is i k e in
             let one_of : has u ≡ true = all u b (subst (λ j. (p u l).hand ≡ hand j b) at_l.0
@@ -354,8 +354,8 @@ module _ (one : ℕ → Type 0) (p q : ℕ → ℕ → Location) (hands : HandsB
             (meant_here u k one_of at_l.1) in
             let f : ◌≡◌ {A = Option Hand} None (hand i b) = sym gone ∙ h in cc)
 
-    carried_then_free : (i k : ℕ) (b : Bool) → (q i k).carries ≡ Some b → (u : ℕ) × ((q u k).hand ≡ hand i b)
-    carried_then_free i k b h = by_taking (taking i k) refl (sym (carries i k) ∙ h)
+    carried_then_free : (i k : ℕ) (b : Bool) → (q i k).has_taken ≡ Some b → (u : ℕ) × ((q u k).hand ≡ hand i b)
+    carried_then_free i k b h = by_taking (taking i k) refl (sym (has_taken i k) ∙ h)
       where
         stays_held : (u : ℕ) → taking i k ≡ false → (p u k).hand ≡ hand i b → (x : Bool) → meant u k ≡ x
             → (if x then None else (p u k).hand) ≡ hand i b
@@ -366,7 +366,7 @@ module _ (one : ℕ → Type 0) (p q : ℕ → ℕ → Location) (hands : HandsB
             let yes : taking i k ≡ true = taking_here i k who at_l.1 in let g : true ≡ false = sym yes ∙ e
             in cc)
 
-        by_taking : (x : Bool) → taking i k ≡ x → (if x then None else (p i k).carries) ≡ Some b
+        by_taking : (x : Bool) → taking i k ≡ x → (if x then None else (p i k).has_taken) ≡ Some b
             → (u : ℕ) × ((q u k).hand ≡ hand i b)
         by_taking true e g = absurd cc
         by_taking false e g = let u = hands.carried i k b g
@@ -382,7 +382,7 @@ module _ (one : ℕ → Type 0) (p q : ℕ → ℕ → Location) (hands : HandsB
   -- t has handed the lock over to each thread that it has in hand
   module _ (c : Option Bool) (in_hand : (u k : ℕ) → (q u k).hand ≡ (if meant u k then hand t true
       else (p u k).hand))
-      (carries : (i k : ℕ) → (q i k).carries ≡ (if taking i k then c else (p i k).carries))
+      (has_taken : (i k : ℕ) → (q i k).has_taken ≡ (if taking i k then c else (p i k).has_taken))
       (mine : (u : ℕ) → has u ≡ true → (b : Bool) × ((p u l).hand ≡ hand t b)) (all : (u : ℕ) (b : Bool)
       → (p u l).hand ≡ hand t b → has u ≡ true) (some : (b : Bool) → c ≡ Some b → (b ≡ true)
       × ((u : ℕ) × (has u ≡ true))) (full : (u : ℕ) → has u ≡ true → c ≡ Some true) where
@@ -400,28 +400,28 @@ module _ (one : ℕ → Type 0) (p q : ℕ → ℕ → Location) (hands : HandsB
             )
         by_meant false e g = (b, g)
 
-    taken_then_given : (i u k : ℕ) (b : Bool) → (q u k).hand ≡ hand i b → (q i k).carries ≡ Some b
+    taken_then_given : (i u k : ℕ) (b : Bool) → (q u k).hand ≡ hand i b → (q i k).has_taken ≡ Some b
     taken_then_given i u k b h = by_meant (meant u k) refl (sym (in_hand u k) ∙ h)
       where
         by_taking : (x : Bool) → taking i k ≡ x → meant u k ≡ false → (p u k).hand ≡ hand i b
-            → (q i k).carries ≡ Some b
+            → (q i k).has_taken ≡ Some b
         by_taking true e f g = absurd (let at_l = taking_is i k e in
             let one_of : has u ≡ true = all u b (subst (λ j. (p u l).hand ≡ hand j b) at_l.0
             (subst (λ j. (p u j).hand ≡ hand i b) at_l.1 g)) in
             let yes : meant u k ≡ true = meant_here u k one_of at_l.1 in let no_more : true ≡ false = sym yes
             ∙ f in cc)
-        by_taking false e f g = carries i k ∙ ap (λ x. if x then c else (p i k).carries) e
+        by_taking false e f g = has_taken i k ∙ ap (λ x. if x then c else (p i k).has_taken) e
             ∙ hands.taken i u k b g
 
         by_meant : (x : Bool) → meant u k ≡ x → (if x then hand t true else (p u k).hand) ≡ hand i b
-            → (q i k).carries ≡ Some b
+            → (q i k).has_taken ≡ Some b
         by_meant true e g = let at_l = meant_is u k e in let who : t ≡ i = cc in let which : true ≡ b = cc in
-            carries i k ∙ ap (λ x. if x then c else (p i k).carries) (taking_here i k who at_l.1)
+            has_taken i k ∙ ap (λ x. if x then c else (p i k).has_taken) (taking_here i k who at_l.1)
             ∙ full u at_l.0 ∙ ap Some which
         by_meant false e g = by_taking (taking i k) refl e g
 
-    carried_then_given : (i k : ℕ) (b : Bool) → (q i k).carries ≡ Some b → (u : ℕ) × ((q u k).hand ≡ hand i b)
-    carried_then_given i k b h = by_taking (taking i k) refl (sym (carries i k) ∙ h)
+    carried_then_given : (i k : ℕ) (b : Bool) → (q i k).has_taken ≡ Some b → (u : ℕ) × ((q u k).hand ≡ hand i b)
+    carried_then_given i k b h = by_taking (taking i k) refl (sym (has_taken i k) ∙ h)
       where
         stays_held : (u : ℕ) → taking i k ≡ false → (p u k).hand ≡ hand i b → (x : Bool) → meant u k ≡ x
             → (if x then hand t true else (p u k).hand) ≡ hand i b
@@ -432,7 +432,7 @@ module _ (one : ℕ → Type 0) (p q : ℕ → ℕ → Location) (hands : HandsB
             let yes : taking i k ≡ true = taking_here i k who at_l.1 in let g : true ≡ false = sym yes ∙ e
             in cc)
 
-        by_taking : (x : Bool) → taking i k ≡ x → (if x then c else (p i k).carries) ≡ Some b
+        by_taking : (x : Bool) → taking i k ≡ x → (if x then c else (p i k).has_taken) ≡ Some b
             → (u : ℕ) × ((q u k).hand ≡ hand i b)
         by_taking true e g = let at_l = taking_is i k e in let s = some b g in (
           s.1.0,

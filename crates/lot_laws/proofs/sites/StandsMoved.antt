@@ -4,7 +4,7 @@ use Imports.{ℕ, true, Option, Some, None, ◌≡◌, ◌≢◌, List, inl, inr
 use Imports.{times, Kind, Place, Rules, putting, rules_of, Line, State, place_at, kind_at, section_at, queue_at}
 use Imports.{is_mutex, location_at, Sections, Lines, AllAreWaiting, Hands, HandsBy, TakesOne, FitsItsLock}
 use Imports.{rules_in, key_of, stood_in, locations_of}
-use Rattle.spec_locks.specs.declared.kinds.Kind as kind
+use Rattle.spec_locks.specs.declared.kinds.Kind.TheVariants as kind
 use Rattle.lot_laws.specs.Locations.{Location}
 use Rattle.lot_laws.specs.SitesOf.{Stands}
 use Rattle.lot_laws.proofs.machine.Parts.{put_here, put_other}
@@ -13,8 +13,8 @@ use Rattle.lot_laws.proofs.sites.StandsKept.{AlikeBeside, part_else, sections_sa
 use Rattle.lot_laws.proofs.sites.StandsKept.{line_moved, hands_same, waits_same, calls_in}
 
 pub mutex_rules : (k : Kind) → is_mutex k ≡ true → rules_of k ≡ mutex
-mutex_rules kind.TheVariants.Mutex h = refl
-mutex_rules kind.TheVariants.Fair h = refl
+mutex_rules kind.Mutex h = refl
+mutex_rules kind.Fair h = refl
 mutex_rules k h = absurd cc
 
 -- a thread has one waiter of a mutex in hand
@@ -78,8 +78,8 @@ module _ {one : ℕ → Type 0} (at at2 : ℕ → ℕ → Location) (section : �
   other : {A : Type 0} (g : Location → A) → (u k : ℕ) → (u ≡ t → k ≡ l → ⊥) → g (at2 u k) ≡ g (at u k)
   other g u k ne = ap g (others u k ne)
 
-  hands_stay : (at2 t l).carries ≡ (at t l).carries → (at2 t l).hand ≡ (at t l).hand → HandsBy one at2
-  hands_stay c n = hands_same at at2 there.hands (part (λ x. x.carries) c) (part (λ x. x.hand) n)
+  hands_stay : (at2 t l).has_taken ≡ (at t l).has_taken → (at2 t l).hand ≡ (at t l).hand → HandsBy one at2
+  hands_stay c n = hands_same at at2 there.hands (part (λ x. x.has_taken) c) (part (λ x. x.hand) n)
 
   waits_stay : (at2 t l).waits ≡ (at t l).waits → AllAreWaiting at2 queue
   waits_stay e = waits_same at at2 queue queue there.waits (part (λ x. x.waits) e) (λ key. refl)
@@ -96,7 +96,7 @@ module _ {one : ℕ → Type 0} (at at2 : ℕ → ℕ → Location) (section : �
     sections = sections_stay (ap (λ (x : Location). x.inside) e);
     lines = lines_stay (ap (λ (x : Location). x.stands) e);
     waits = waits_stay (ap (λ (x : Location). x.waits) e);
-    hands = hands_stay (ap (λ (x : Location). x.carries) e) (ap (λ (x : Location). x.hand) e);
+    hands = hands_stay (ap (λ (x : Location). x.has_taken) e) (ap (λ (x : Location). x.hand) e);
   }
 
   module _ (m : Line) (after : ℕ → Option ℕ) (elsewhere : (key : ℕ) → key ≢ key_of l m → after key
@@ -109,7 +109,7 @@ module _ {one : ℕ → Type 0} (at at2 : ℕ → ℕ → Location) (section : �
           (ap (λ (x : Location). x.inside) e) held;
       lines = lines_stay (ap (λ (x : Location). x.stands) e);
       waits = waits_stay (ap (λ (x : Location). x.waits) e);
-      hands = hands_stay (ap (λ (x : Location). x.carries) e) (ap (λ (x : Location). x.hand) e);
+      hands = hands_stay (ap (λ (x : Location). x.has_taken) e) (ap (λ (x : Location). x.hand) e);
     }
 
     -- out of its own
@@ -122,7 +122,7 @@ module _ {one : ℕ → Type 0} (at at2 : ℕ → ℕ → Location) (section : �
           (ap (λ (x : Location). x.inside) e) free;
       lines = lines_stay (ap (λ (x : Location). x.stands) e);
       waits = waits_stay (ap (λ (x : Location). x.waits) e);
-      hands = hands_stay (ap (λ (x : Location). x.carries) e) (ap (λ (x : Location). x.hand) e);
+      hands = hands_stay (ap (λ (x : Location). x.has_taken) e) (ap (λ (x : Location). x.hand) e);
     }
 
   -- into a line, or out of it
@@ -130,7 +130,7 @@ module _ {one : ℕ → Type 0} (at at2 : ℕ → ℕ → Location) (section : �
       → ((key : ℕ) → key ≢ key_of l m → after key ≡ queue key)
       → ((u : ℕ) → u ≢ t → times u (after (key_of l m)) ≡ times u (queue (key_of l m)))
       → ((n : Line) → times t (after (key_of l n)) ≡ stood_in (at2 t l).stands n) → AllAreWaiting at2 after
-      → (at2 t l).inside ≡ (at t l).inside → (at2 t l).carries ≡ (at t l).carries → (at2 t l).hand
+      → (at2 t l).inside ≡ (at t l).inside → (at2 t l).has_taken ≡ (at t l).has_taken → (at2 t l).hand
       ≡ (at t l).hand
       → AreThere one at2 section after
   line_changes m after elsewhere counts own_count waits i c n = record {

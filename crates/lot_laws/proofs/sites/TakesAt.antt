@@ -11,7 +11,7 @@ use Imports.{location_at, role_on, ActsNeeded, TakesOne, Hands, IsInductive, Goe
 use Imports.{AllAreWaiting, AreWaiting, Sections, after_acts, rules_in, key_of, stood_in, carried_at, hand_at}
 use Imports.{locations_of}
 use Rattle.spec_locks.specs.Locks as locks
-use Rattle.spec_locks.specs.declared.kinds.Kind as kind
+use Rattle.spec_locks.specs.declared.kinds.Kind.TheVariants as kind
 use Rattle.lot_laws.specs.Locations.{Location, hand}
 use Rattle.lot_laws.proofs.semaphore.Permits.{all_by}
 use Rattle.lot_laws.proofs.machine.Parts.{parts_at, base_at, lock_in, seen_in, same, differ, put_here}
@@ -151,8 +151,8 @@ module _ (w : State) (t l : ℕ) (inductive : IsInductive w) (there : t < length
     (beside : AlikeBeside l (place_at w t) p2) (fits : FitsItsLock w p2)
     (m : Line) (taken left : List Waiter) (splits : SplitsAt w t l m taken left) (single : TakesOne w l
     → (u v : ℕ) → member u taken ≡ true → member v taken ≡ true → u ≡ v)
-    (bare : (location_at (place_at w t) l).carries ≡ None) (c : Option Bool) (now : location_at p2 l
-    ≡ record (after_take t (member t taken) (location_at (place_at w t) l)) { carries = c }) where
+    (bare : (location_at (place_at w t) l).has_taken ≡ None) (c : Option Bool) (now : location_at p2 l
+    ≡ record (after_take t (member t taken) (location_at (place_at w t) l)) { has_taken = c }) where
   abbrev has : ℕ → Bool
   has u = member u taken
 
@@ -195,7 +195,7 @@ module _ (w : State) (t l : ℕ) (inductive : IsInductive w) (there : t < length
 
   -- a part of a location at the lock, but for the threads that t carries
   part_here : {A : Type 0} (g : Location → A) → ((x : Location) (b : Option Bool)
-      → g (record x { carries = b }) ≡ g x) → (u : ℕ) → g (location_at (places_now u) l) ≡ g
+      → g (record x { has_taken = b }) ≡ g x) → (u : ℕ) → g (location_at (places_now u) l) ≡ g
       (after_take t (has u) (was u))
   part_here g same_part = by_thread (λ u p. g (location_at p l) ≡ g (after_take t (has u) (was u)))
       (ap g now ∙ same_part (after_take t (has t) (was t)) c)
@@ -228,15 +228,15 @@ module _ (w : State) (t l : ℕ) (inductive : IsInductive w) (there : t < length
     | inr ne ↦ rw (differ k l ne, and-false (has u)) (ap (λ (y : Location). y.hand) (location_there u k ne))
   ]
 
-  carries : (i k : ℕ) → carried_at (places_now i) k ≡ (if (i == t) && (k == l) then c else carried_at
+  has_taken : (i k : ℕ) → carried_at (places_now i) k ≡ (if (i == t) && (k == l) then c else carried_at
       (place_at w i) k)
-  carries i k = elim (cases_eq k l) [
+  has_taken i k = elim (cases_eq k l) [
     | inl e ↦ rw (e, same l, and-true (i == t))
         (by_thread (λ u p. carried_at p l ≡ (if u == t then c else carried_at (place_at w u) l))
-        (rw (same t) (ap (λ (y : Location). y.carries) now))
-        (λ u nu h. rw (differ u t nu) (ap (λ (y : Location). y.carries) (splits.sleeps u h).goes))
+        (rw (same t) (ap (λ (y : Location). y.has_taken) now))
+        (λ u nu h. rw (differ u t nu) (ap (λ (y : Location). y.has_taken) (splits.sleeps u h).goes))
         (λ u nu h. rw (differ u t nu) refl) i)
-    | inr ne ↦ rw (differ k l ne, and-false (i == t)) (ap (λ (y : Location). y.carries)
+    | inr ne ↦ rw (differ k l ne, and-false (i == t)) (ap (λ (y : Location). y.has_taken)
         (location_there i k ne))
   ]
 
@@ -244,7 +244,7 @@ module _ (w : State) (t l : ℕ) (inductive : IsInductive w) (there : t < length
       → ((u : ℕ) → has u ≡ true → c ≡ Some false)
       → Hands (TakesOne w) places_now
   hands_now some full = hands_taken (TakesOne w) (locations_of (place_at w)) (locations_of places_now)
-      inductive.stands.hands t l has single c in_hand carries bare (λ u h. (splits.sleeps u h).unheld) some
+      inductive.stands.hands t l has single c in_hand has_taken bare (λ u h. (splits.sleeps u h).unheld) some
       full
 
   calls_now : (u : ℕ) → FitsItsLock w (places_now u)
@@ -383,21 +383,21 @@ module _ (w : State) (t l : ℕ) (inductive : IsInductive w) (there : t < length
       same_lock : (k : ℕ) → base_at v k ≡ base_at w k
       same_lock k = λ i. record {
         shared = get_or (eh i) k (replicate (threads i) 0);
-        filled = (get_or (el i) k (unlocked kind.TheVariants.Mutex)).filled;
+        filled = (get_or (el i) k (unlocked kind.Mutex)).filled;
       }
 
       here_now : (n : Line) → m ≡ n → parts_at v l ≡ with_line (parts_at w l) n left
       here_now Main e = λ i. record {
         base = same_lock l i;
-        word = (get_or (el i) l (unlocked kind.TheVariants.Mutex)).word;
-        owners = (get_or (el i) l (unlocked kind.TheVariants.Mutex)).owners;
+        word = (get_or (el i) l (unlocked kind.Mutex)).word;
+        owners = (get_or (el i) l (unlocked kind.Mutex)).owners;
         main = (subst (λ n. queue_at v (key_of l n) ≡ left) e here) i;
         second = (others (2 * l + 1) (subst (λ n. 2 * l + 1 ≢ key_of l n) (sym e) (λ h. omega arith))) i;
       }
       here_now Second e = λ i. record {
         base = same_lock l i;
-        word = (get_or (el i) l (unlocked kind.TheVariants.Mutex)).word;
-        owners = (get_or (el i) l (unlocked kind.TheVariants.Mutex)).owners;
+        word = (get_or (el i) l (unlocked kind.Mutex)).word;
+        owners = (get_or (el i) l (unlocked kind.Mutex)).owners;
         main = (others (2 * l) (subst (λ n. 2 * l ≢ key_of l n) (sym e) (λ h. omega arith))) i;
         second = (subst (λ n. queue_at v (key_of l n) ≡ left) e here) i;
       }
@@ -407,8 +407,8 @@ module _ (w : State) (t l : ℕ) (inductive : IsInductive w) (there : t < length
         here = here_now m refl;
         others = λ k ne i. record {
           base = same_lock k i;
-          word = (get_or (el i) k (unlocked kind.TheVariants.Mutex)).word;
-          owners = (get_or (el i) k (unlocked kind.TheVariants.Mutex)).owners;
+          word = (get_or (el i) k (unlocked kind.Mutex)).word;
+          owners = (get_or (el i) k (unlocked kind.Mutex)).owners;
           main = (others (key_of k Main) (other_key l k m Main ne)) i;
           second = (others (key_of k Second) (other_key l k m Second ne)) i;
         };
@@ -420,7 +420,7 @@ module _ (w : State) (t l : ℕ) (inductive : IsInductive w) (there : t < length
       }
         where
           same_kinds : (k : ℕ) → kind_at v k ≡ kind_at w k
-          same_kinds k i = (get_or (el i) k (unlocked kind.TheVariants.Mutex)).kind
+          same_kinds k i = (get_or (el i) k (unlocked kind.Mutex)).kind
 
           same_sharers : (n : Line) → length (with_line (parts_at w l) n left).base.shared ≡ length
               (shares_at w l)

@@ -52,7 +52,7 @@ module _ (w : State) (t l : ℕ) (inductive : IsInductive w) (own : IsOf l (plac
     (of : IsOf l p2) (fits : FitsItsLock w p2) (many : TakesOne w l → ⊥)
     (m : Line) (taken left : List Waiter) (splits : Splits w t l m taken left)
     (out : (location (place_at w t)).stands ≡ None) (free : (location (place_at w t)).hand ≡ None)
-    (bare : (location (place_at w t)).carries ≡ None) where
+    (bare : (location (place_at w t)).has_taken ≡ None) where
   was_here : location_at (place_at w t) l ≡ location (place_at w t)
   was_here = location_here l (place_at w t) own
 
@@ -73,14 +73,14 @@ module _ (w : State) (t l : ℕ) (inductive : IsInductive w) (own : IsOf l (plac
   -- the thread's location, but for the threads that it carries
   now : (location p2).inside ≡ (location (place_at w t)).inside → (location p2).stands ≡ None
       → (location p2).hand ≡ None → location_at p2 l ≡ record (after_take t (member t taken)
-      (location_at (place_at w t) l)) { carries = (location p2).carries }
+      (location_at (place_at w t) l)) { has_taken = (location p2).has_taken }
   now inside stands unheld = location_here l p2 of ∙ (λ i. record (location (place_at w t)) {
     inside = inside i;
     stands = (stands ∙ sym out) i;
     waits = (waits_out p2 stands ∙ sym (waits_out (place_at w t) out)) i;
-    carries = (location p2).carries;
+    has_taken = (location p2).has_taken;
     hand = (unheld ∙ sym free) i;
-  }) ∙ sym (λ i. record (after_take t (not_self i) (was_here i)) { carries = (location p2).carries })
+  }) ∙ sym (λ i. record (after_take t (not_self i) (was_here i)) { has_taken = (location p2).has_taken })
 
   module _ (r : Rules) (rules : rules_in w l ≡ r) (none : taken_at (place_at w t) l ≡ None)
       (none2 : taken_at p2 l ≡ None) where
@@ -98,8 +98,8 @@ module _ (w : State) (t l : ℕ) (inductive : IsInductive w) (own : IsOf l (plac
         (others : (key : ℕ) → key ≢ key_of l m → queue_at v key ≡ queue_at w key) where
       pub take_goes : (location p2).inside ≡ (location (place_at w t)).inside → (location p2).stands ≡ None
           → (location p2).hand ≡ None
-          → ((b : Bool) → (location p2).carries ≡ Some b → (b ≡ false) × ((u : ℕ) × (member u taken ≡ true)))
-          → ((u : ℕ) → member u taken ≡ true → (location p2).carries ≡ Some false)
+          → ((b : Bool) → (location p2).has_taken ≡ Some b → (b ≡ false) × ((u : ℕ) × (member u taken ≡ true)))
+          → ((u : ℕ) → member u taken ≡ true → (location p2).has_taken ≡ Some false)
           → (d : Deed) → AreSingle (d ∷ []) → NoHandOff (d ∷ []) → ActsNeeded r (acts t (d ∷ []))
           (lock_by w l r)
           → lock_taken.lock ≡ (after_acts r (acts t (d ∷ [])) (lock_by w l r)).lock
@@ -116,7 +116,7 @@ module _ (w : State) (t l : ℕ) (inductive : IsInductive w) (own : IsOf l (plac
             lefts = splits.lefts;
             wants = splits.wants;
           })
-          (λ one. absurd (many one)) (ap (λ (y : Location). y.carries) was_here ∙ bare) (location p2).carries
+          (λ one. absurd (many one)) (ap (λ (y : Location). y.has_taken) was_here ∙ bare) (location p2).has_taken
           (now inside stands unheld) r rules
           (none2 ∙ sym (ap (λ b. if b then taken_at (next_place (place_at w t) (TakenBy t)) l
           else taken_at (place_at w t) l) not_self ∙ none)) v el eh es threads places here others

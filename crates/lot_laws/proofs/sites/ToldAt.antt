@@ -31,7 +31,7 @@ SameHands l p p2 = (k : ℕ) → k ≢ l → (hand_at p2 k ≡ hand_at p k) × (
 pub same_hands : (l : ℕ) (p p2 : Place) → AlikeBeside l p p2 → SameHands l p p2
 same_hands l p p2 beside k ne = let e = (beside k ne).location in (
   ap (λ (y : Location). y.hand) e,
-  ap (λ (y : Location). y.carries) e,
+  ap (λ (y : Location). y.has_taken) e,
 )
 
 -- each thread that is in a hand is so at some lock, and t has nobody in hand at another lock than this one
@@ -157,16 +157,16 @@ module _ (w : State) (t l : ℕ) (inductive : IsInductive w) (p2 : Place) (besid
           either false h = ap (λ y. hand_at y k) (told_off u h)
           either true h = at_told (held_here u h) h (k == l) refl
 
-  pub carries : (i k : ℕ)
-      → carried_at (places_then i) k ≡ (if (i == t) && (k == l) then (location_at p2 l).carries
+  pub has_taken : (i k : ℕ)
+      → carried_at (places_then i) k ≡ (if (i == t) && (k == l) then (location_at p2 l).has_taken
       else carried_at (place_at w i) k)
-  carries i k = elim (cases_eq i t) [
+  has_taken i k = elim (cases_eq i t) [
     | inl e ↦ rw (e, put_here told t p2, same t) (either (k == l) refl)
-    | inr ni ↦ rw (put_other told t p2 i ni, differ i t ni) (part_told (λ y. y.carries) (λ x h. refl) i k)
+    | inr ni ↦ rw (put_other told t p2 i ni, differ i t ni) (part_told (λ y. y.has_taken) (λ x h. refl) i k)
   ]
     where
       either : (c : Bool) → (k == l) ≡ c
-          → carried_at p2 k ≡ (if c then (location_at p2 l).carries else carried_at (place_at w t) k)
+          → carried_at p2 k ≡ (if c then (location_at p2 l).has_taken else carried_at (place_at w t) k)
       either true e = ap (carried_at p2) (eqb-true k l e)
       either false e = (beside k (not_here k e)).1
 

@@ -20,9 +20,9 @@ use Rattle.lot_laws.proofs.calls.Closings.{closing, closing_counted, closing_may
 use Rattle.lot_laws.proofs.calls.Closings.{closing_there}
 use Rattle.lot_laws.proofs.calls.Closures.{closes_one}
 use Rattle.lot_laws.proofs.semaphore.Page.{claim_held, claims_first, opens}
-use Rattle.spec_locks.specs.declared.calls.Call as calling
+use Rattle.spec_locks.specs.declared.calls.Call.TheVariants as calling
 use Rattle.spec_locks.specs.declared.calls.MutexCall.TheVariants as call
-use Rattle.spec_locks.specs.declared.calls.Turn as turn
+use Rattle.spec_locks.specs.declared.calls.Turn.TheVariants as turn
 use Rattle.lot_laws.proofs.machine.KindsStay.{calls_mutex, calls_readers, calls_once, calls_semaphore}
 use Rattle.lot_laws.proofs.machine.Parts.{parts_at, same, single_or_two, thread_is}
 use Rattle.lot_laws.proofs.machine.Parts.{mutex, own_role}
@@ -96,37 +96,37 @@ module _ (w : State) (t : ℕ) (inductive : IsInductive w) (shape : IsWellFormed
         (thread_is t (owners_at w l).exclusive right) refl
 
     begun_kept : (c : Call) → can_begin w t c ≡ true → IsInductive (state_after_begin w t c)
-    begun_kept (calling.TheVariants.Mutex l c) can =
-        let parts = both (is_idle (place_at w t)) (is_open_to w t (calling.TheVariants.Mutex l c)) can in
+    begun_kept (calling.Mutex l c) can =
+        let parts = both (is_idle (place_at w t)) (is_open_to w t (calling.Mutex l c)) can in
         let open_to = both (nat_lt l (length w.locks)) _ parts.1 in
-        let right = both (has_call (kind_at w l) (calling.TheVariants.Mutex l c)) _ open_to.1 in
+        let right = both (has_call (kind_at w l) (calling.Mutex l c)) _ open_to.1 in
         goes_inductive w _ l _ inductive (calls_begin l (is_fair (kind_at w l)) c
         (calls_mutex (kind_at w l) l c
         right.0) (idle_is (place_at w t) parts.0) right.1)
-    begun_kept (calling.TheVariants.Once l c) can =
-        let parts = both (is_idle (place_at w t)) (is_open_to w t (calling.TheVariants.Once l c)) can in
+    begun_kept (calling.Once l c) can =
+        let parts = both (is_idle (place_at w t)) (is_open_to w t (calling.Once l c)) can in
         let open_to = both (nat_lt l (length w.locks)) _ parts.1 in
-        let right = both (has_call (kind_at w l) (calling.TheVariants.Once l c)) _ open_to.1 in
+        let right = both (has_call (kind_at w l) (calling.Once l c)) _ open_to.1 in
         goes_inductive w _ l _ inductive (begins_with w t l inductive there (idle_is (place_at w t) parts.0)
         (Once l (once_first c)) refl refl (calls_once (kind_at w l) l c right.0) None refl refl tt)
-    begun_kept (calling.TheVariants.Semaphore l c) can =
-        let parts = both (is_idle (place_at w t)) (is_open_to w t (calling.TheVariants.Semaphore l c)) can in
+    begun_kept (calling.Semaphore l c) can =
+        let parts = both (is_idle (place_at w t)) (is_open_to w t (calling.Semaphore l c)) can in
         let open_to = both (nat_lt l (length w.locks)) _ parts.1 in
-        let right = both (has_call (kind_at w l) (calling.TheVariants.Semaphore l c)) _ open_to.1 in
+        let right = both (has_call (kind_at w l) (calling.Semaphore l c)) _ open_to.1 in
         goes_inductive w _ l _ inductive (begins_with w t l inductive there (idle_is (place_at w t) parts.0)
         (Semaphore l (semaphore_first c)) refl refl (
           calls_semaphore (kind_at w l) l c right.0,
           (opens c).timed,
         ) (claims_first c) (opens c).location (opens c).role
         (claim_held (lock_state w l) t c right.1))
-    begun_kept (calling.TheVariants.Condvar l c) can =
-        let parts = both (is_idle (place_at w t)) (is_open_to w t (calling.TheVariants.Condvar l c)) can in
+    begun_kept (calling.Condvar l c) can =
+        let parts = both (is_idle (place_at w t)) (is_open_to w t (calling.Condvar l c)) can in
         goes_inductive w _ (begins_at l c) _ inductive (condvar_begins w t l inductive there
         (idle_is (place_at w t) parts.0) c parts.1)
-    begun_kept (calling.TheVariants.RwLock l c) can =
-        let parts = both (is_idle (place_at w t)) (is_open_to w t (calling.TheVariants.RwLock l c)) can in
+    begun_kept (calling.RwLock l c) can =
+        let parts = both (is_idle (place_at w t)) (is_open_to w t (calling.RwLock l c)) can in
         let open_to = both (nat_lt l (length w.locks)) _ parts.1 in
-        let right = both (has_call (kind_at w l) (calling.TheVariants.RwLock l c)) _ open_to.1 in
+        let right = both (has_call (kind_at w l) (calling.RwLock l c)) _ open_to.1 in
         goes_inductive w _ l _ inductive (rwlock_begins w t l c inductive there
         (idle_is (place_at w t) parts.0)
         (calls_readers (kind_at w l) l c right.0) right.1)
@@ -208,17 +208,17 @@ module _ (w : State) (t : ℕ) (inductive : IsInductive w) (shape : IsWellFormed
 
     turned_kept : AreCounted w → AreCondvars w → (x : Turn) → can_turn w t x ≡ true
         → IsInductive (state_after_turn w t x)
-    turned_kept counted condvars (turn.TheVariants.Begin c) can = begun_kept c can
-    turned_kept counted condvars turn.TheVariants.Go can = gone_inductive w t inductive shape there counted
+    turned_kept counted condvars (turn.Begin c) can = begun_kept c can
+    turned_kept counted condvars turn.Go can = gone_inductive w t inductive shape there counted
         condvars
         can
-    turned_kept counted condvars turn.TheVariants.Spin can =
+    turned_kept counted condvars turn.Spin can =
         spun_kept counted condvars (respins_from (place_at w t))
         refl
-    turned_kept counted condvars turn.TheVariants.Late can = late_kept (place_at w t) refl (shape.places t)
+    turned_kept counted condvars turn.Late can = late_kept (place_at w t) refl (shape.places t)
         can
-    turned_kept counted condvars turn.TheVariants.Ok can = closed_kept counted condvars true can
-    turned_kept counted condvars turn.TheVariants.Err can = closed_kept counted condvars false can
+    turned_kept counted condvars turn.Ok can = closed_kept counted condvars true can
+    turned_kept counted condvars turn.Err can = closed_kept counted condvars false can
 
 -- a step keeps what holds between steps
 pub after_inductive : (w : State) (s : Step) → IsWellFormed w → IsInductive w → AreCounted w → AreCondvars w

@@ -6,7 +6,7 @@ use Imports.{[], length, replicate, get_or, set, inl, inr, refl, sym, ◌∙◌,
 use Imports.{cases_eq, Waiter, Place, Idle, putting, rules_of, Deed, Main, Site, has_readers, code, HasLimit}
 use Imports.{State, place_at, kind_at, shares_at, unlocked, word_at, lock_state, acts, ActsNeeded, AllBy}
 use Imports.{FollowAll, IsInductive, SameNumbers, after_acts, key_of, rules_in, site_of}
-use Rattle.spec_locks.specs.declared.kinds.Kind as kind
+use Rattle.spec_locks.specs.declared.kinds.Kind.TheVariants as kind
 use Rattle.spec_locks.specs.Locks as locks
 use Rattle.lot_laws.specs.ThreadDeeds as deeds
 use Rattle.lot_laws.specs.Locations.{Location}
@@ -115,10 +115,10 @@ module _ (w v : State) (inductive : IsInductive w) (t : ℕ) (there : t < length
     base = record {
       shared = get_or (eh i) k (replicate ((ap (λ (xs : List Place). length xs) ep ∙ length-set w.places t p2)
           i) 0);
-      filled = (get_or (el i) k (unlocked kind.TheVariants.Mutex)).filled;
+      filled = (get_or (el i) k (unlocked kind.Mutex)).filled;
     };
-    word = (get_or (el i) k (unlocked kind.TheVariants.Mutex)).word;
-    owners = (get_or (el i) k (unlocked kind.TheVariants.Mutex)).owners;
+    word = (get_or (el i) k (unlocked kind.Mutex)).word;
+    owners = (get_or (el i) k (unlocked kind.Mutex)).owners;
     main = get_or (eq i) (2 * k) [];
     second = get_or (eq i) (2 * k + 1) [];
   }
@@ -128,7 +128,7 @@ module _ (w v : State) (inductive : IsInductive w) (t : ℕ) (there : t < length
       ∙ put_places w t p2 (λ h. absurd (omega arith))
 
   pub same_kinds : (k : ℕ) → kind_at v k ≡ kind_at w k
-  same_kinds k i = (get_or (el i) k (unlocked kind.TheVariants.Mutex)).kind
+  same_kinds k i = (get_or (el i) k (unlocked kind.Mutex)).kind
 
   afterwards : (l : ℕ) (ds : List Deed) → has_readers (rules_in w l).sort ≡ false
       → Steps (rules_in w l) l (parts_at w l) (parts_at w l) (place_at w) t p2 ds
@@ -164,7 +164,7 @@ module _ (w v : State) (inductive : IsInductive w) (t : ℕ) (there : t < length
       c m others (acts t ds_c) (acts t ds_m) apart (afterwards c ds_c unshared_c steps_c)
       (afterwards m ds_m unshared_m steps_m)
 
--- --------------------------------------------------------- its station at one of them, and then at the other
+-- --------------------------------------------------------- the station at one of them, and then at the other
 
 -- where one thread stands otherwise at one lock
 abbrev pub with_location : (ℕ → ℕ → Location) → ℕ → ℕ → Location → ℕ → ℕ → Location

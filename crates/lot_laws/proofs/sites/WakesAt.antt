@@ -16,7 +16,7 @@ use Rattle.lot_laws.proofs.sites.ActsAt.{word_by_lines}
 use Rattle.lot_laws.proofs.sites.Following.{limited, follows_by, lock_by}
 use Rattle.lot_laws.proofs.sites.OneStep.{AreOrdinary}
 use Rattle.lot_laws.proofs.sites.ToldAt.{IsToldAt, HoldsHere, SameHands, has, told, places_then, held_here}
-use Rattle.lot_laws.proofs.sites.ToldAt.{told_on, told_off, not_held, in_hand, carries, alike, calls_then}
+use Rattle.lot_laws.proofs.sites.ToldAt.{told_on, told_off, not_held, in_hand, has_taken, alike, calls_then}
 use Rattle.lot_laws.proofs.sites.ToldAt.{other_parts, all_parts, places_are}
 use Rattle.lot_laws.proofs.sites.StandsKept.{AlikeBeside, left, lines_same, waits_same, hands_freed, calls_in}
 use Rattle.lot_laws.proofs.sites.StandsMoved.{AreThere, stands_by}
@@ -117,13 +117,13 @@ module _ (w : State) (t l : ℕ) (inductive : IsInductive w) (there : t < length
     is = location_at p2 l
 
     -- t has nobody in hand then, and isn't in its own
-    module _ (bare : is.carries ≡ None) (own_hand : is.hand ≡ (if is_told t then None else was.hand)) where
+    module _ (bare : is.has_taken ≡ None) (own_hand : is.hand ≡ (if is_told t then None else was.hand)) where
       pub hands_then : Hands (TakesOne w) afterwards
       hands_then = hands_freed (TakesOne w) (locations_of (place_at w)) (locations_of afterwards)
           inductive.stands.hands t l is_told (in_hand w t l inductive p2 beside fits holds (Woken x) None
           all_told
           own_hand)
-          (λ i k. carries w t l inductive p2 beside fits holds (Woken x) None all_told i k
+          (λ i k. has_taken w t l inductive p2 beside fits holds (Woken x) None all_told i k
           ∙ ap (λ c. if (i == t) && (k == l) then c else carried_at (place_at w i) k) bare)
           (λ u h. let held = held_here w t l inductive p2 beside fits holds (Woken x) None all_told u h
           in (held.handed, held.hand)) (λ u b h. holds.taker u b h)

@@ -51,7 +51,7 @@ module _ (w : State) (t l : ℕ) (inductive : IsInductive w) (own : IsOf l (plac
   is_here : location_at p2 l ≡ location p2
   is_here = location_here l p2 of
 
-  pub wake_goes : (location p2).carries ≡ None → (location p2).hand ≡ None → (m : Line)
+  pub wake_goes : (location p2).has_taken ≡ None → (location p2).hand ≡ None → (m : Line)
       → (line : key_of l m < length w.sections)
       → (location (place_at w t)).inside ≡ Some m → (location p2).stands ≡ (location (place_at w t)).stands
       → (location p2).waits ≡ (location (place_at w t)).waits → (location p2).inside ≡ None
@@ -63,7 +63,7 @@ module _ (w : State) (t l : ℕ) (inductive : IsInductive w) (own : IsOf l (plac
       (acts t ds)
   wake_goes bare unheld m line within stood waited out r rules none none2 =
       at.wake_goes w t l inductive there p2 (same_hands l (place_at w t) p2 beside) fits holds x woken
-      (ap (λ (y : Location). y.carries) is_here ∙ bare)
+      (ap (λ (y : Location). y.has_taken) is_here ∙ bare)
       (unheld_then (at.is_told w t l inductive there p2 (same_hands l (place_at w t) p2 beside) fits holds x
       woken t))
       beside m line (ap (λ (y : Location). y.inside) was_here ∙ within) (ap (λ (y : Location). y.stands)

@@ -204,7 +204,7 @@ fn where_no_deadline_passes_a_timed_call_waits_for_ever(rt: HostRuntime) {
 enum Told {
     /// All states are fine: so many, each after fewer moves than `depth`.
     Fine { states: usize, depth: usize },
-    /// These moves lead to a wrong state.
+    /// Moves that lead to a wrong state.
     Wrong(Vec<usize>),
     /// Something else.
     Neither,

@@ -36,7 +36,7 @@ const NOTIFY_ALL: Call = Call::Condvar {
     call: CondvarCall::Notify { all: true },
 };
 
-// These threads lock the mutex and wait, in their order.
+// The threads that lock the mutex and wait, in their order.
 fn all_wait(world: &mut World<ListQueues>, threads: usize) -> bool {
     for thread in 0..threads {
         let script = [
@@ -50,7 +50,7 @@ fn all_wait(world: &mut World<ListQueues>, threads: usize) -> bool {
     true
 }
 
-// These threads go on in their order: each has the mutex, ends its wait and releases it.
+// The threads that go on in their order: each has the mutex, ends its wait and releases it.
 fn all_leave(world: &mut World<ListQueues>, threads: usize) -> bool {
     for thread in 0..threads {
         let script = [GoesOn(thread, DONE), Calls(thread, UNLOCK, DONE)];
@@ -61,7 +61,7 @@ fn all_leave(world: &mut World<ListQueues>, threads: usize) -> bool {
     true
 }
 
-// These threads wait, and have the mutex in their order after what happens meanwhile.
+// The threads that wait, and have the mutex in their order after what happens meanwhile.
 fn wait_and_leave(
     rt: &impl Abort,
     world: &mut World<ListQueues>,

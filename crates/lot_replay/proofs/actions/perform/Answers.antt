@@ -2,7 +2,7 @@ use Rattle.std.proofs.Common.{sym, ap, ◌∙◌}
 use Rattle.spec_locks.specs.declared.outcomes.Outcome.{Outcome}
 use Rattle.lot_machine.specs.Machine.{State}
 use Rattle.lot_replay.specs.Stages.{went_alone}
-use Rattle.lot_laws.proofs.alone.AloneSteps.{after_stuck}
+use Rattle.lot_laws.proofs.machine.Stuck.{after_stuck}
 use Rattle.lot_replay.proofs.ActionLemmas.{begin_of, did_begin, did_nothing}
 use Rattle.lot_replay.proofs.actions.perform.Goals as goal
 

@@ -3,7 +3,7 @@ use Rattle.core_clocks.specs.Clocks.{TimeIsUp}
 use Rattle.core_words.specs.Indices.{word_index}
 use Rattle.core_words.specs.Steps.{CodesWith, MayStep}
 use Rattle.core_words.specs.declared.words.Word.{Word}
-use Rattle.steps_base.specs.declared.acts.Act as act
+use Rattle.steps_base.specs.declared.acts.Act.TheVariants as act
 use Rattle.steps_base.specs.declared.acts.Reply.TheVariants.{Value}
 use Rattle.parking_lot_core.specs.Tokens.{view_of}
 use Rattle.run_base.specs.Paths.{step}
@@ -15,7 +15,7 @@ use Rattle.run_base.proofs.turns.turn_hand_over.Goals as goal
 pub hand_over-requires-clause-may : goal.hand_over-requires-clause-may
 hand_over-requires-clause-may g c =
     let needs = needs_by (TimeIsUp g.C.Clock.tells c.args._limit) c.args.lot.now c.args.words c.requires.0
-    (act.TheVariants.HandOver c.args.lock c.args.op) c.args.token.now c.args.section.now c.requires.1
+    (act.HandOver c.args.lock c.args.op) c.args.token.now c.args.section.now c.requires.1
     c.requires.2 in
     subst (λ (w : Word). MayStep w.kind (word_index w.number w.kind) c.args.op
     (view_of c.args.token.now).owns) (sym c.of.ensures) needs.0
@@ -23,7 +23,7 @@ hand_over-requires-clause-may g c =
 pub hand_over-requires-clause-each : goal.hand_over-requires-clause-each
 hand_over-requires-clause-each g c =
     let needs = needs_by (TimeIsUp g.C.Clock.tells c.args._limit) c.args.lot.now c.args.words c.requires.0
-    (act.TheVariants.HandOver c.args.lock c.args.op) c.args.token.now c.args.section.now c.requires.1
+    (act.HandOver c.args.lock c.args.op) c.args.token.now c.args.section.now c.requires.1
     c.requires.2 in (
       needs.1,
       subst (λ (w : Word). HandsEach w.kind (word_index w.number w.kind) c.args.op
@@ -35,7 +35,7 @@ pub returns : goal.returns
 returns g c = λ p at is.
     let seen = c.hand_over.result in
     turned_by (TimeIsUp g.C.Clock.tells c.args._limit) c.args.lot.now c.args.words p c.args.token.now
-    c.hand_over.new.token c.args.section.now c.hand_over.new.section (act.TheVariants.HandOver c.args.lock
+    c.hand_over.new.token c.args.section.now c.hand_over.new.section (act.HandOver c.args.lock
     c.args.op) (Value seen) is refl at
     c.hand_over.ensures.own.0 c.hand_over.ensures.own.1 (
       subst (λ (w : Word). CodesWith w.kind (word_index w.number w.kind) seen (view_of c.args.token.now).owns)

@@ -5,7 +5,7 @@ use Rattle.core_words.specs.Indices.{word_index}
 use Rattle.core_words.specs.Steps.{CodesWith, MayStep, after_step}
 use Rattle.core_words.specs.declared.views.View.{View}
 use Rattle.core_words.specs.declared.words.Word.{Word}
-use Rattle.steps_base.specs.declared.acts.Act as act
+use Rattle.steps_base.specs.declared.acts.Act.TheVariants as act
 use Rattle.steps_base.specs.declared.acts.Reply.TheVariants.{Parked}
 use Rattle.parking_lot_core.specs.Tokens.{last_of, view_of}
 use Rattle.run_base.specs.Stages.{SectionView, stage}
@@ -17,7 +17,7 @@ use Rattle.run_base.proofs.turns.turn_park.Goals as goal
 pub park-requires-clause-needs : goal.park-requires-clause-needs
 park-requires-clause-needs g c =
     let needs = needs_by (TimeIsUp g.C.Clock.tells c.args._limit) c.args.lot.now c.args.words c.requires.0
-    (act.TheVariants.Park c.args.lock c.args.key c.args.check c.args.want) c.args.token.now
+    (act.Park c.args.lock c.args.key c.args.check c.args.want) c.args.token.now
     c.args.section.now c.requires.1 c.requires.2 in (
       subst (λ (w : Word). MayStep w.kind (word_index w.number w.kind) Load (view_of c.args.token.now).owns)
           (sym c.of.ensures) needs.0,
@@ -34,7 +34,7 @@ returns-clause-done g c = λ p at is.
     let there = by_stage (word_among c.args.words c.args.lock) Load seen c.args.token.now c.args.section.now
     c.park.new.token then c.park.ensures.own.1 code in
     turned_by (TimeIsUp g.C.Clock.tells c.args._limit) c.args.lot.now c.args.words p c.args.token.now
-    c.park.new.token c.args.section.now c.park.new.section (act.TheVariants.Park c.args.lock c.args.key
+    c.park.new.token c.args.section.now c.park.new.section (act.Park c.args.lock c.args.key
     c.args.check c.args.want) (Parked c.park.result) is refl at
     c.park.ensures.own.0 c.park.ensures.same.0 (
       seen,

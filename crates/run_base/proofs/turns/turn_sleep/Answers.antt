@@ -1,6 +1,6 @@
 use Rattle.std.proofs.Common.{refl, sym, subst}
 use Rattle.core_clocks.specs.Clocks.{TimeIsUp}
-use Rattle.steps_base.specs.declared.acts.Act as act
+use Rattle.steps_base.specs.declared.acts.Act.TheVariants as act
 use Rattle.core_words.specs.Indices.{word_index}
 use Rattle.core_words.specs.Lots.{IsWordOf}
 use Rattle.core_words.specs.declared.words.Word.{Word}
@@ -22,7 +22,7 @@ sleep-requires g c = record {
     subst (IsWordOf c.args.lot.now.words) (sym c.of.ensures)
         (c.requires.at.1 c.sleeper_at-sleeper.result.lock),
     needs_by (TimeIsUp g.C.Clock.tells c.args.limit) c.args.lot.now c.args.words c.args.place
-        act.TheVariants.Sleep c.args.token.now c.args.section.now c.requires.at c.requires.act,
+        act.Sleep c.args.token.now c.args.section.now c.requires.at c.requires.act,
   );
   queued = c.requires.queued;
 }
@@ -39,7 +39,7 @@ returns g c =
     c.sleeper_at-sleeper.ensures awoke in
     record {
       turned = turned_by (TimeIsUp g.C.Clock.tells c.args.limit) c.args.lot.now c.args.words c.args.place
-          c.args.token.now c.sleep.new.token c.args.section.now c.sleep.new.section act.TheVariants.Sleep
+          c.args.token.now c.sleep.new.token c.args.section.now c.sleep.new.section act.Sleep
           c.sleep.result c.requires.act refl c.requires.at
           c.sleep.ensures.own.0 c.sleep.ensures.own.1 became c.sleep.ensures.own.2 c.sleep.ensures.queues
           c.sleep.ensures.told;

@@ -77,8 +77,8 @@ returns-then-found-seen g c = let pair = c.args.pair in let at = notify_at pair.
     set.ends c.move_some-then-found-seen.result c.move_some-then-found-seen.new.token
     c.move_some-then-found-seen.ensures
 
-pub rest-requires-clause-at : goal.rest-requires-clause-at
-rest-requires-clause-at g c = let pair = c.args.pair in let at = notify_at pair.condvar pair.mutex c.args.all
+pub finish_by_driver-requires-clause-at : goal.finish_by_driver-requires-clause-at
+finish_by_driver-requires-clause-at g c = let pair = c.args.pair in let at = notify_at pair.condvar pair.mutex c.args.all
     in let seen = c.turn_word-seen.result in
     let owned : is_locked c.turn_word-seen.result ≡ true = search rules in
     let here = begins ⊥ c.args.lot.now pair.words (at notify.Mark) c.args.token.now c.args.section c.requires
@@ -111,10 +111,10 @@ returns g c = let pair = c.args.pair in let at = notify_at pair.condvar pair.mut
     (refl, set_again pair.condvar pair.mutex c.args.all seen found (is_locked found) changed refl) in
     let there = named missed (sym (c.next_place-next.ensures ∙ ap (λ (p : Place). next_place p (Value found))
     c.notifies-place.ensures)) in
-    there.ends c.rest.result c.rest.new.token c.rest.ensures
+    there.ends c.finish_by_driver.result c.finish_by_driver.new.token c.finish_by_driver.ensures
 
-pub rest-requires-clause-queued : goal.rest-requires-clause-queued
-rest-requires-clause-queued g c = let pair = c.args.pair in let found = c.turn_word-found.result in
+pub finish_by_driver-requires-clause-queued : goal.finish_by_driver-requires-clause-queued
+finish_by_driver-requires-clause-queued g c = let pair = c.args.pair in let found = c.turn_word-found.result in
     let next = c.next_place-next.ensures ∙ ap (λ (q : Place). next_place q (Value c.turn_word-found.result))
     c.notifies-place.ensures in
     let calm = after_condvar pair.condvar (Notify c.args.all pair.mutex (notify.Set c.turn_word-seen.result))

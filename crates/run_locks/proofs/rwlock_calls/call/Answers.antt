@@ -3,8 +3,8 @@ use Rattle.std.specs.declared.result.Result.{Result}
 use Rattle.core_clocks.specs.Clocks.{TimeIsUp}
 use Rattle.spec_locks.specs.declared.outcomes.Answer.{Answer}
 use Rattle.run_locks.specs.Halves.{HasBegunRwLock, HasEndedRwLock}
-use Rattle.run_locks.specs.declared.rwlock_calls.Rest.{Rest}
-use Rattle.run_locks.specs.declared.rwlock_calls.Rest.TheVariants.{GoesOn, Missed, NotBegun}
+use Rattle.run_locks.specs.declared.rwlock_calls.SlowPart.{SlowPart}
+use Rattle.run_locks.specs.declared.rwlock_calls.SlowPart.TheVariants.{GoesOn, Missed, NotBegun}
 use Rattle.run_locks.proofs.rwlock_calls.call.Goals as goal
 
 pub call_slow-requires-clause-begun : goal.call_slow-requires-clause-begun
@@ -13,7 +13,7 @@ call_slow-requires-clause-begun g c = let is : c.call_fast.result ≡ Err (GoesO
       c.args.token.now,
       c.requires.right.0,
       c.requires.right.1,
-      subst (λ (r : Result Answer Rest). MatchResult r
+      subst (λ (r : Result Answer SlowPart). MatchResult r
           (λ answer. HasEndedRwLock (TimeIsUp g.C.Clock.tells c.args.limit.now) c.args.word.now
           c.args.settings.now.admission c.args.purpose answer c.args.token.now c.call_fast.new.token)
           (λ rest. HasBegunRwLock c.args.word.now c.args.settings.now.admission c.args.purpose rest
@@ -26,7 +26,7 @@ missed-requires-clause-begun g c = let is : c.call_fast.result
       c.args.token.now,
       c.requires.right.0,
       c.requires.right.1,
-      subst (λ (r : Result Answer Rest). MatchResult r
+      subst (λ (r : Result Answer SlowPart). MatchResult r
           (λ answer. HasEndedRwLock (TimeIsUp g.C.Clock.tells c.args.limit.now) c.args.word.now
           c.args.settings.now.admission c.args.purpose answer c.args.token.now c.call_fast.new.token)
           (λ rest. HasBegunRwLock c.args.word.now c.args.settings.now.admission c.args.purpose rest
@@ -39,7 +39,7 @@ call_in_turn-requires-clause-begun g c = let is : c.call_fast.result ≡ Err Not
       c.args.token.now,
       c.requires.right.0,
       c.requires.right.1,
-      subst (λ (r : Result Answer Rest). MatchResult r
+      subst (λ (r : Result Answer SlowPart). MatchResult r
           (λ answer. HasEndedRwLock (TimeIsUp g.C.Clock.tells c.args.limit.now) c.args.word.now
           c.args.settings.now.admission c.args.purpose answer c.args.token.now c.call_fast.new.token)
           (λ rest. HasBegunRwLock c.args.word.now c.args.settings.now.admission c.args.purpose rest

@@ -17,14 +17,14 @@ use Rattle.run_locks.proofs.RwLockHalves.{ended_after, ended_at_once, fits_after
 use Rattle.run_locks.proofs.RwLockTakes.{over_taken, path_taken, word_may_take}
 use Rattle.run_locks.proofs.rwlock_calls.call_fast.Goals as goal
 
-pub word_again-seen-requires-clause-may : goal.word_again-seen-requires-clause-may
-word_again-seen-requires-clause-may g c = may_start c.args.word.now c.requires.own.2 c.args.purpose
+pub step_word_unrecorded-seen-requires-clause-may : goal.step_word_unrecorded-seen-requires-clause-may
+step_word_unrecorded-seen-requires-clause-may g c = may_start c.args.word.now c.requires.own.2 c.args.purpose
     c.opening.result c.requires.right.0 (view_of c.may_begin.new.token).owns c.opening.ensures
     (search rules)
 
 pub returns-in-Ends-clause-over : goal.returns-in-Ends-clause-over
 returns-in-Ends-clause-over g c = let word = c.args.word.now in let a = c.args.settings.now.admission in let q = c.args.purpose in
-    let old = c.args.token.now in let by = c.word_again-seen in let mid = by.new.token in
+    let old = c.args.token.now in let by = c.step_word_unrecorded-seen in let mid = by.new.token in
     let seen = by.result in let up = TimeIsUp g.C.Clock.tells c.args._limit.now in
     let now : SteppedAndFound word (first_op q) seen old mid =
     subst (λ (o : Op). SteppedAndFound word o seen old mid) c.opening.ensures
@@ -42,7 +42,7 @@ returns-in-Ends-clause-over g c = let word = c.args.word.now in let a = c.args.s
 
 pub returns-in-GoesOn-clause-over : goal.returns-in-GoesOn-clause-over
 returns-in-GoesOn-clause-over g c = let word = c.args.word.now in let a = c.args.settings.now.admission in let q = c.args.purpose in
-    let old = c.args.token.now in let by = c.word_again-seen in let mid = by.new.token in
+    let old = c.args.token.now in let by = c.step_word_unrecorded-seen in let mid = by.new.token in
     let seen = by.result in let up = TimeIsUp g.C.Clock.tells c.args._limit.now in
     let now : SteppedAndFound word (first_op q) seen old mid =
     subst (λ (o : Op). SteppedAndFound word o seen old mid) c.opening.ensures
@@ -56,9 +56,9 @@ returns-in-GoesOn-clause-over g c = let word = c.args.word.now in let a = c.args
     ))
     in let goes : course_of a q seen ≡ GoesOn = search rules in (now, goes)
 
-pub word_again-found-requires-clause-may : goal.word_again-found-requires-clause-may
-word_again-found-requires-clause-may g c = let word = c.args.word.now in let a = c.args.settings.now.admission in let q = c.args.purpose in
-    let old = c.args.token.now in let by = c.word_again-seen in let mid = by.new.token in
+pub step_word_unrecorded-found-requires-clause-may : goal.step_word_unrecorded-found-requires-clause-may
+step_word_unrecorded-found-requires-clause-may g c = let word = c.args.word.now in let a = c.args.settings.now.admission in let q = c.args.purpose in
+    let old = c.args.token.now in let by = c.step_word_unrecorded-seen in let mid = by.new.token in
     let seen = by.result in let up = TimeIsUp g.C.Clock.tells c.args._limit.now in
     let now : SteppedAndFound word (first_op q) seen old mid =
     subst (λ (o : Op). SteppedAndFound word o seen old mid) c.opening.ensures
@@ -78,7 +78,7 @@ word_again-found-requires-clause-may g c = let word = c.args.word.now in let a =
 
 pub returns-then-found-seen-clause-over : goal.returns-then-found-seen-clause-over
 returns-then-found-seen-clause-over g c = let word = c.args.word.now in let a = c.args.settings.now.admission in let q = c.args.purpose in
-    let old = c.args.token.now in let by = c.word_again-seen in let mid = by.new.token in
+    let old = c.args.token.now in let by = c.step_word_unrecorded-seen in let mid = by.new.token in
     let seen = by.result in let up = TimeIsUp g.C.Clock.tells c.args._limit.now in
     let now : SteppedAndFound word (first_op q) seen old mid =
     subst (λ (o : Op). SteppedAndFound word o seen old mid) c.opening.ensures
@@ -91,9 +91,9 @@ returns-then-found-seen-clause-over g c = let word = c.args.word.now in let a = 
       by.ensures.untold,
     ))
     in let goes : course_of a q seen ≡ Takes = search rules in
-    let found : c.word_again-found.result ≡ seen = search rules in
+    let found : c.step_word_unrecorded-found.result ≡ seen = search rules in
     let exchange = Exchange seen c.taken-to.result in let to = ap (Exchange seen) c.taken-to.ensures in
-    let last = c.word_again-found in let new = last.new.token in
+    let last = c.step_word_unrecorded-found in let new = last.new.token in
     subst (λ (answer : Answer). HasEndedRwLock up word a q answer old new) (sym c.answer_with.ensures)
     (ended_after up word c.requires.own.2 a c.requires.own.4 q seen old mid now
     (takes_at word.number a q seen goes) (entered (patience_of q)) new (search rules) c.requires.right.0
@@ -105,7 +105,7 @@ returns-then-found-seen-clause-over g c = let word = c.args.word.now in let a = 
 
 pub returns-else-found-seen-clause-over : goal.returns-else-found-seen-clause-over
 returns-else-found-seen-clause-over g c = let word = c.args.word.now in let a = c.args.settings.now.admission in let q = c.args.purpose in
-    let old = c.args.token.now in let by = c.word_again-seen in let mid = by.new.token in
+    let old = c.args.token.now in let by = c.step_word_unrecorded-seen in let mid = by.new.token in
     let seen = by.result in let up = TimeIsUp g.C.Clock.tells c.args._limit.now in
     let now : SteppedAndFound word (first_op q) seen old mid =
     subst (λ (o : Op). SteppedAndFound word o seen old mid) c.opening.ensures
@@ -118,7 +118,7 @@ returns-else-found-seen-clause-over g c = let word = c.args.word.now in let a = 
       by.ensures.untold,
     ))
     in let goes : course_of a q seen ≡ Takes = search rules in
-    let last = c.word_again-found in (
+    let last = c.step_word_unrecorded-found in (
       mid,
       now,
       goes,

@@ -4,7 +4,7 @@ use Rattle.run_base.specs.RwLockCalls.{BeginsWith}
 use Rattle.steps_rwlock.specs.declared.purposes.RwLockPurpose.{RwLockPurpose}
 use Rattle.parking_lot_core.specs.Tokens.{view_of}
 use Rattle.run_locks.specs.Halves.{HasBegunRwLock, HasEndedRwLock}
-use Rattle.run_locks.specs.declared.rwlock_calls.Rest.TheVariants.{NotBegun}
+use Rattle.run_locks.specs.declared.rwlock_calls.SlowPart.TheVariants.{NotBegun}
 use Rattle.run_locks.proofs.rwlock_calls.call_in_turn.Goals as goal
 
 pub rest_in_turn-requires-clause-begun : goal.rest_in_turn-requires-clause-begun

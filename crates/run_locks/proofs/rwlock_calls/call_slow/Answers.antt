@@ -8,7 +8,7 @@ use Rattle.steps_rwlock.specs.declared.purposes.RwLockPurpose.{RwLockPurpose}
 use Rattle.lot_steps.specs.Steps.{next_place}
 use Rattle.parking_lot_core.specs.Tokens.{view_of}
 use Rattle.run_locks.specs.Halves.{HasBegunRwLock, HasEndedRwLock}
-use Rattle.run_locks.specs.declared.rwlock_calls.Rest.TheVariants.{GoesOn}
+use Rattle.run_locks.specs.declared.rwlock_calls.SlowPart.TheVariants.{GoesOn}
 use Rattle.run_locks.proofs.RwLockHalves.{ended_on_going, fits_on}
 use Rattle.run_locks.proofs.rwlock_calls.call_slow.Goals as goal
 

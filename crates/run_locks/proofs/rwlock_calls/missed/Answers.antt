@@ -7,7 +7,7 @@ use Rattle.run_base.specs.Stages.{stage_of}
 use Rattle.steps_rwlock.specs.declared.purposes.RwLockPurpose.{RwLockPurpose}
 use Rattle.parking_lot_core.specs.Tokens.{view_of}
 use Rattle.run_locks.specs.Halves.{HasBegunRwLock, HasEndedRwLock}
-use Rattle.run_locks.specs.declared.rwlock_calls.Rest.TheVariants.{Missed}
+use Rattle.run_locks.specs.declared.rwlock_calls.SlowPart.TheVariants.{Missed}
 use Rattle.run_locks.proofs.RwLockHalves.{ended_missed, reached_missed}
 use Rattle.run_locks.proofs.rwlock_calls.missed.Goals as goal
 

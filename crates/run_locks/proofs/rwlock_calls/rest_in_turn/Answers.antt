@@ -12,7 +12,7 @@ use Rattle.run_base.specs.RwLockCalls.{BeginsWith, first_op, rwlock_begin}
 use Rattle.run_base.specs.Stages.{stage_of}
 use Rattle.run_locks.specs.Courses.{course_of}
 use Rattle.run_locks.specs.Halves.{HasBegunRwLock, SteppedAndFound}
-use Rattle.run_locks.specs.declared.rwlock_calls.Rest.TheVariants.{NotBegun}
+use Rattle.run_locks.specs.declared.rwlock_calls.SlowPart.TheVariants.{NotBegun}
 use Rattle.run_locks.specs.declared.rwlock_courses.Course.TheVariants.{Ends, Takes, GoesOn}
 use Rattle.run_locks.proofs.RwLockCalling.{may_start}
 use Rattle.run_locks.proofs.RwLockCourses.{ends_with, takes_at, waits_at}

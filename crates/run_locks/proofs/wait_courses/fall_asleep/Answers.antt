@@ -49,8 +49,8 @@ returns-then-matches g c = let pair = c.args.pair in let at = wait_at pair.condv
     c.turn_sleep-reply.new.section turned (at (locks_at lock.First)) on in
     awake.ends c.lock_again.result c.lock_again.new.token c.lock_again.ensures
 
-pub rest-requires-clause-at : goal.rest-requires-clause-at
-rest-requires-clause-at g c = let pair = c.args.pair in let at = wait_at pair.condvar pair.mutex c.args.timed
+pub finish_by_driver-requires-clause-at : goal.finish_by_driver-requires-clause-at
+finish_by_driver-requires-clause-at g c = let pair = c.args.pair in let at = wait_at pair.condvar pair.mutex c.args.timed
     in let up = TimeIsUp g.C.Clock.tells c.args.limit in
     let here = begins up c.args.lot.now pair.words (at (wait.Asleep Listed)) c.args.token.now c.args.section
     c.requires.at in
@@ -68,8 +68,8 @@ rest-requires-clause-at g c = let pair = c.args.pair in let at = wait_at pair.co
     ∙ ap (λ (p : Place). next_place p c.turn_sleep-reply.result) c.waits-place.ensures)) in
     there.at
 
-pub rest-requires-clause-call : goal.rest-requires-clause-call
-rest-requires-clause-call g c =
+pub finish_by_driver-requires-clause-call : goal.finish_by_driver-requires-clause-call
+finish_by_driver-requires-clause-call g c =
     subst IsOfCondvar (sym (c.next_place-next.ensures
     ∙ ap (λ (p : Place). next_place p c.turn_sleep-reply.result) c.waits-place.ensures)) tt
 
@@ -90,11 +90,11 @@ returns g c = let pair = c.args.pair in let at = wait_at pair.condvar pair.mutex
     ) in
     let there = named awake (sym (c.next_place-next.ensures
     ∙ ap (λ (p : Place). next_place p c.turn_sleep-reply.result) c.waits-place.ensures)) in
-    there.ends c.rest.result c.rest.new.token c.rest.ensures
+    there.ends c.finish_by_driver.result c.finish_by_driver.new.token c.finish_by_driver.ensures
 
 pub turn_sleep-reply-requires-clause-queued : goal.turn_sleep-reply-requires-clause-queued
 turn_sleep-reply-requires-clause-queued g c = c.requires.queued
 
-pub rest-requires-clause-queued : goal.rest-requires-clause-queued
-rest-requires-clause-queued g c = λ queued. c.turn_sleep-reply.ensures.queued
+pub finish_by_driver-requires-clause-queued : goal.finish_by_driver-requires-clause-queued
+finish_by_driver-requires-clause-queued g c = λ queued. c.turn_sleep-reply.ensures.queued
     (subst (λ (p : Place). is_queued p ≡ true) c.next_place-next.ensures queued)

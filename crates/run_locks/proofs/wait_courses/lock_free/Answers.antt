@@ -38,8 +38,8 @@ returns-then-found-seen g c = let pair = c.args.pair in let at = wait_at pair.co
     (takes_free pair.condvar pair.mutex c.args.timed c.args.seen c.turn_word-found.result c.requires.free same
     ∙ ap Some (sym c.notified_answer.ensures))
 
-pub rest-requires-clause-at : goal.rest-requires-clause-at
-rest-requires-clause-at g c = let pair = c.args.pair in let at = wait_at pair.condvar pair.mutex c.args.timed
+pub finish_by_driver-requires-clause-at : goal.finish_by_driver-requires-clause-at
+finish_by_driver-requires-clause-at g c = let pair = c.args.pair in let at = wait_at pair.condvar pair.mutex c.args.timed
     in
     let p = at (locks_at (lock.Decide c.args.seen)) in
     let is : act_of p ≡ Word pair.mutex (Exchange c.args.seen (c.args.seen + 1)) = rw c.requires.free refl in
@@ -73,10 +73,10 @@ returns g c = let pair = c.args.pair in let at = wait_at pair.condvar pair.mutex
     ) in
     let there = named missed (sym (c.next_place-next.ensures ∙ ap (λ (q : Place). next_place q (Value found))
     (c.waits-place.ensures ∙ ap at c.locks.ensures))) in
-    there.ends c.rest.result c.rest.new.token c.rest.ensures
+    there.ends c.finish_by_driver.result c.finish_by_driver.new.token c.finish_by_driver.ensures
 
-pub rest-requires-clause-queued : goal.rest-requires-clause-queued
-rest-requires-clause-queued g c = let pair = c.args.pair in let at = wait_at pair.condvar pair.mutex
+pub finish_by_driver-requires-clause-queued : goal.finish_by_driver-requires-clause-queued
+finish_by_driver-requires-clause-queued g c = let pair = c.args.pair in let at = wait_at pair.condvar pair.mutex
     c.args.timed in let found = c.turn_word-found.result in
     let next = c.next_place-next.ensures ∙ ap (λ (q : Place). next_place q (Value c.turn_word-found.result))
     (c.waits-place.ensures ∙ ap (wait_at c.args.pair.condvar c.args.pair.mutex c.args.timed)

@@ -10,8 +10,8 @@ use Rattle.std.proofs.lemmas.Bool.{false≢true}
 use Rattle.run_base.specs.Queued.{is_queued}
 use Rattle.run_locks.proofs.wait_courses.lock_seen.Goals as goal
 
-pub rest-requires-clause-at : goal.rest-requires-clause-at
-rest-requires-clause-at g c = let pair = c.args.pair in let at = wait_at pair.condvar pair.mutex c.args.timed
+pub finish_by_driver-requires-clause-at : goal.finish_by_driver-requires-clause-at
+finish_by_driver-requires-clause-at g c = let pair = c.args.pair in let at = wait_at pair.condvar pair.mutex c.args.timed
     in let seen = c.turn_word-seen.result in
     let here = begins (TimeIsUp g.C.Clock.tells c.args.limit) c.args.lot.now pair.words (at (locks_at lock.Load))
     c.args.token.now c.args.section c.requires in
@@ -30,7 +30,7 @@ returns-then-is_locked g c = let pair = c.args.pair in let at = wait_at pair.con
     refl (at (locks_at (lock.Decide seen)))
     (refl, decides_on pair.condvar pair.mutex c.args.timed seen (is_locked seen) refl) in
     let there = named looked (sym (c.waits-place.ensures ∙ ap at c.locks.ensures)) in
-    there.ends c.rest.result c.rest.new.token c.rest.ensures
+    there.ends c.finish_by_driver.result c.finish_by_driver.new.token c.finish_by_driver.ensures
 
 pub lock_free-requires-clause-at : goal.lock_free-requires-clause-at
 lock_free-requires-clause-at g c = let pair = c.args.pair in let at = wait_at pair.condvar pair.mutex
@@ -52,7 +52,7 @@ returns g c = let pair = c.args.pair in let at = wait_at pair.condvar pair.mutex
     (refl, decides_on pair.condvar pair.mutex c.args.timed seen (is_locked seen) refl) in
     looked.ends c.lock_free.result c.lock_free.new.token c.lock_free.ensures
 
-pub rest-requires-clause-queued : goal.rest-requires-clause-queued
-rest-requires-clause-queued g c = λ queued. absurd
+pub finish_by_driver-requires-clause-queued : goal.finish_by_driver-requires-clause-queued
+finish_by_driver-requires-clause-queued g c = λ queued. absurd
     (false≢true (ap is_queued (sym (c.waits-place.ensures
     ∙ ap (wait_at c.args.pair.condvar c.args.pair.mutex c.args.timed) c.locks.ensures)) ∙ queued))

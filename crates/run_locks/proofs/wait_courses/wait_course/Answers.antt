@@ -31,8 +31,8 @@ turn_word-seen-requires g c = let pair = c.args.pair in let at = wait_at pair.co
     c.turn_enter.ensures (enters_one c.main_key-key.ensures) (at wait.Show) (refl, refl) in
     may_do entered (ap (λ (v : ℕ). Word pair.condvar (Exchange 0 v)) (sym c.shown.ensures))
 
-pub rest-requires-clause-at : goal.rest-requires-clause-at
-rest-requires-clause-at g c = let pair = c.args.pair in let at = wait_at pair.condvar pair.mutex c.args.timed
+pub finish_by_driver-requires-clause-at : goal.finish_by_driver-requires-clause-at
+finish_by_driver-requires-clause-at g c = let pair = c.args.pair in let at = wait_at pair.condvar pair.mutex c.args.timed
     in let up = TimeIsUp g.C.Clock.tells c.args.limit in
     let entered = comes (begins up c.args.lot.now pair.words (at wait.Enter) c.args.token.now None c.requires)
     Done c.turn_enter.new.token c.turn_enter.new.section
@@ -57,7 +57,7 @@ returns-then-not-may_show g c = let pair = c.args.pair in let at = wait_at pair.
     (ap (λ (v : ℕ). Word pair.condvar (Exchange 0 v)) (sym c.shown.ensures)) (at wait.Refuse)
     (shows_on pair.condvar pair.mutex c.args.timed c.turn_word-seen.result false (sym c.may_show.ensures
     ∙ other)) in
-    (named shown (sym c.waits-place.ensures)).ends c.rest.result c.rest.new.token c.rest.ensures
+    (named shown (sym c.waits-place.ensures)).ends c.finish_by_driver.result c.finish_by_driver.new.token c.finish_by_driver.ensures
 
 pub turn_stand-queue-requires : goal.turn_stand-queue-requires
 turn_stand-queue-requires g c = let pair = c.args.pair in let at = wait_at pair.condvar pair.mutex
@@ -147,6 +147,6 @@ returns g c = let pair = c.args.pair in let at = wait_at pair.condvar pair.mutex
     (leaves_one c.main_key-key.ensures refl) (at (releases_at unlock.Subtract)) (refl, refl) in
     left.ends c.release.result c.release.new.token c.release.ensures
 
-pub rest-requires-clause-queued : goal.rest-requires-clause-queued
-rest-requires-clause-queued g c = λ queued. absurd (false≢true (ap is_queued (sym c.waits-place.ensures)
+pub finish_by_driver-requires-clause-queued : goal.finish_by_driver-requires-clause-queued
+finish_by_driver-requires-clause-queued g c = λ queued. absurd (false≢true (ap is_queued (sym c.waits-place.ensures)
     ∙ queued))

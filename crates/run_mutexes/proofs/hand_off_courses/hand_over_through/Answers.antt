@@ -61,8 +61,8 @@ returns-then-any g c =
     (hand_off.Store b c.turn_take_first-any.result.1)) some) in
     there.ends c.give.result c.give.new.token c.give.ensures
 
-pub rest-requires-clause-at : goal.rest-requires-clause-at
-rest-requires-clause-at g c =
+pub finish_by_driver-requires-clause-at : goal.finish_by_driver-requires-clause-at
+finish_by_driver-requires-clause-at g c =
     let at = hands_at c.args.mutex in
     let up = TimeIsUp g.C.Clock.tells c.args.limit in
     let lot = c.args.lot.now in let words = c.args.words in
@@ -78,11 +78,11 @@ rest-requires-clause-at g c =
     (hand_off.Store b c.turn_take_first-any.result.1)) nobody ∙ sym c.hands-place.ensures) in
     there.at
 
-pub rest-requires-clause-call : goal.rest-requires-clause-call
-rest-requires-clause-call g c = subst IsOfMutex (sym c.hands-place.ensures) tt
+pub finish_by_driver-requires-clause-call : goal.finish_by_driver-requires-clause-call
+finish_by_driver-requires-clause-call g c = subst IsOfMutex (sym c.hands-place.ensures) tt
 
-pub rest-requires-clause-queued : goal.rest-requires-clause-queued
-rest-requires-clause-queued g c =
+pub finish_by_driver-requires-clause-queued : goal.finish_by_driver-requires-clause-queued
+finish_by_driver-requires-clause-queued g c =
     λ queued. absurd (false≢true (ap is_queued (sym c.hands-place.ensures) ∙ queued))
 
 pub returns : goal.returns
@@ -100,4 +100,4 @@ returns g c =
     let nobody : c.turn_take_first-any.result.0 ≡ false = search rules in
     let there = named took (ap (λ (b : Bool). hands_at c.args.mutex
     (hand_off.Store b c.turn_take_first-any.result.1)) nobody ∙ sym c.hands-place.ensures) in
-    there.ends c.rest.result c.rest.new.token c.rest.ensures
+    there.ends c.finish_by_driver.result c.finish_by_driver.new.token c.finish_by_driver.ensures

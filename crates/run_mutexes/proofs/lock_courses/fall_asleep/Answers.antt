@@ -62,8 +62,8 @@ returns-then-matches g c =
     (accepts up lot words (at lock.Accept) new now refl awake.at) awake.at c.entered.result
     (ap Some (sym c.entered.ensures)))
 
-pub rest-requires-clause-at : goal.rest-requires-clause-at
-rest-requires-clause-at g c =
+pub finish_by_driver-requires-clause-at : goal.finish_by_driver-requires-clause-at
+finish_by_driver-requires-clause-at g c =
     let at = locks_at c.args.mutex c.args.entry in
     let up = TimeIsUp g.C.Clock.tells c.args.limit in
     let lot = c.args.lot.now in let words = c.args.words in let reply = c.turn_sleep-reply.result in
@@ -78,13 +78,13 @@ rest-requires-clause-at g c =
     ∙ ap (λ (p : Place). next_place p c.turn_sleep-reply.result) c.locks-place.ensures)) in
     there.at
 
-pub rest-requires-clause-call : goal.rest-requires-clause-call
-rest-requires-clause-call g c = subst IsOfMutex (sym (c.next_place-next.ensures
+pub finish_by_driver-requires-clause-call : goal.finish_by_driver-requires-clause-call
+finish_by_driver-requires-clause-call g c = subst IsOfMutex (sym (c.next_place-next.ensures
     ∙ ap (λ (p : Place). next_place p c.turn_sleep-reply.result) c.locks-place.ensures))
     (stays_of c.args.mutex c.args.entry c.turn_sleep-reply.result)
 
-pub rest-requires-clause-queued : goal.rest-requires-clause-queued
-rest-requires-clause-queued g c = λ queued. c.turn_sleep-reply.ensures.queued
+pub finish_by_driver-requires-clause-queued : goal.finish_by_driver-requires-clause-queued
+finish_by_driver-requires-clause-queued g c = λ queued. c.turn_sleep-reply.ensures.queued
     (subst (λ (p : Place). is_queued p ≡ true) c.next_place-next.ensures queued)
 
 pub returns : goal.returns
@@ -101,4 +101,4 @@ returns g c =
     (refl, sleeps_on c.args.mutex c.args.entry reply) in
     let there = named awake (sym (c.next_place-next.ensures
     ∙ ap (λ (p : Place). next_place p c.turn_sleep-reply.result) c.locks-place.ensures)) in
-    there.ends c.rest.result c.rest.new.token c.rest.ensures
+    there.ends c.finish_by_driver.result c.finish_by_driver.new.token c.finish_by_driver.ensures

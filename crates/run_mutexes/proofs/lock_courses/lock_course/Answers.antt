@@ -38,8 +38,8 @@ returns-then-seen g c =
     let there = named looked (ap (λ (k : ℕ). locks_at c.args.mutex c.args.entry (lock.Decide k)) three) in
     there.ends c.park.result c.park.new.token c.park.ensures
 
-pub rest-requires-clause-at : goal.rest-requires-clause-at
-rest-requires-clause-at g c =
+pub finish_by_driver-requires-clause-at : goal.finish_by_driver-requires-clause-at
+finish_by_driver-requires-clause-at g c =
     let at = locks_at c.args.mutex c.args.entry in
     let up = TimeIsUp g.C.Clock.tells c.args.limit in
     let lot = c.args.lot.now in let words = c.args.words in let seen = c.turn_word-seen.result in
@@ -49,11 +49,11 @@ rest-requires-clause-at g c =
     let there = named looked (sym c.locks-place.ensures) in
     there.at
 
-pub rest-requires-clause-call : goal.rest-requires-clause-call
-rest-requires-clause-call g c = subst IsOfMutex (sym c.locks-place.ensures) tt
+pub finish_by_driver-requires-clause-call : goal.finish_by_driver-requires-clause-call
+finish_by_driver-requires-clause-call g c = subst IsOfMutex (sym c.locks-place.ensures) tt
 
-pub rest-requires-clause-queued : goal.rest-requires-clause-queued
-rest-requires-clause-queued g c =
+pub finish_by_driver-requires-clause-queued : goal.finish_by_driver-requires-clause-queued
+finish_by_driver-requires-clause-queued g c =
     λ queued. absurd (false≢true (ap is_queued (sym c.locks-place.ensures) ∙ queued))
 
 pub returns : goal.returns
@@ -65,4 +65,4 @@ returns g c =
     let looked = comes here (Value seen) c.turn_word-seen.new.token None c.turn_word-seen.ensures refl
     (at (lock.Decide seen)) (refl, looks_on c.args.mutex c.args.entry seen (is_locked seen) refl) in
     let there = named looked (sym c.locks-place.ensures) in
-    there.ends c.rest.result c.rest.new.token c.rest.ensures
+    there.ends c.finish_by_driver.result c.finish_by_driver.new.token c.finish_by_driver.ensures

@@ -107,8 +107,8 @@ returns-then-parked g c =
     (leaves_one c.main_key-key.ensures refl) (at lock.Asleep) on in
     left.ends c.fall_asleep.result c.fall_asleep.new.token c.fall_asleep.ensures
 
-pub rest-requires-clause-at : goal.rest-requires-clause-at
-rest-requires-clause-at g c =
+pub finish_by_driver-requires-clause-at : goal.finish_by_driver-requires-clause-at
+finish_by_driver-requires-clause-at g c =
     let at = locks_at c.args.mutex c.args.entry in
     let up = TimeIsUp g.C.Clock.tells c.args.limit in
     let lot = c.args.lot.now in let words = c.args.words in
@@ -128,11 +128,11 @@ rest-requires-clause-at g c =
     (leaves_one c.main_key-key.ensures refl) (at lock.Load) on in
     (named left (sym c.locks-place.ensures)).at
 
-pub rest-requires-clause-call : goal.rest-requires-clause-call
-rest-requires-clause-call g c = subst IsOfMutex (sym c.locks-place.ensures) tt
+pub finish_by_driver-requires-clause-call : goal.finish_by_driver-requires-clause-call
+finish_by_driver-requires-clause-call g c = subst IsOfMutex (sym c.locks-place.ensures) tt
 
-pub rest-requires-clause-queued : goal.rest-requires-clause-queued
-rest-requires-clause-queued g c =
+pub finish_by_driver-requires-clause-queued : goal.finish_by_driver-requires-clause-queued
+finish_by_driver-requires-clause-queued g c =
     λ queued. absurd (false≢true (ap is_queued (sym c.locks-place.ensures) ∙ queued))
 
 pub returns : goal.returns
@@ -154,4 +154,4 @@ returns g c =
     = rw gone (refl, refl) in
     let left = comes stood Done c.turn_leave.new.token c.turn_leave.new.section c.turn_leave.ensures
     (leaves_one c.main_key-key.ensures refl) (at lock.Load) on in
-    (named left (sym c.locks-place.ensures)).ends c.rest.result c.rest.new.token c.rest.ensures
+    (named left (sym c.locks-place.ensures)).ends c.finish_by_driver.result c.finish_by_driver.new.token c.finish_by_driver.ensures

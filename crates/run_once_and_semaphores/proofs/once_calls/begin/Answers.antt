@@ -13,16 +13,16 @@ use Rattle.run_once_and_semaphores.proofs.OnceCalling.{begins_by}
 use Rattle.run_once_and_semaphores.proofs.once_calls.begin.Goals as goal
 
 pub returns-clause-seen : goal.returns-clause-seen
-returns-clause-seen c = let n = c.args.word.number in let w = c.word_again in
-    let code = subst (λ (kind : WordKind). CodesWith kind (word_index c.args.word.number kind) c.word_again.result
+returns-clause-seen c = let n = c.args.word.number in let w = c.step_word_unrecorded in
+    let code = subst (λ (kind : WordKind). CodesWith kind (word_index c.args.word.number kind) c.step_word_unrecorded.result
     (owns_of c.args.token.now)) c.requires.own.2 w.ensures.coded in
     let is = (by_stage c.args.word Load w.result c.args.token.now None w.new.token w.ensures.stepped
     w.ensures.own.1 w.ensures.coded).1
-    ∙ ap (λ (kind : WordKind). stepped kind (word_index c.args.word.number kind) Load c.word_again.result
+    ∙ ap (λ (kind : WordKind). stepped kind (word_index c.args.word.number kind) Load c.step_word_unrecorded.result
     (stage_of c.args.token.now None)) c.requires.own.2 in (
       w.ensures.own.0.1,
-      ap (λ (v : View). v.steps) c.word_again.ensures.stepped ∙ ap (λ (kind : WordKind). steps_of c.args.token.now
-          ++ step (word_index c.args.word.number kind) Load c.word_again.result) c.requires.own.2,
+      ap (λ (v : View). v.steps) c.step_word_unrecorded.ensures.stepped ∙ ap (λ (kind : WordKind). steps_of c.args.token.now
+          ++ step (word_index c.args.word.number kind) Load c.step_word_unrecorded.result) c.requires.own.2,
       λ (call : OnceCall). begins_by n call (owns_of c.args.token.now) (steps_of c.args.token.now
           ++ step (once_at n) Load w.result) w.result (stage_of w.new.token None) code.1.0 is,
       w.ensures.untold,

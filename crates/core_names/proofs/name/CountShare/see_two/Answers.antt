@@ -12,7 +12,7 @@ load-requires g c = let lot = c.args.words.now in let seat = c.args.self.now.sea
     c.args.count in let words = lot.table.shared.key.0 in let family = lot.table.shared.key.1.family in let
     slots = lot.table.shared.table_id.slots in
     let drawn = c.requires.own.1 in let kind = c.requires.own.2 in let at = c.index.result in let one =
-    g.C.CountPick.thread in let other = g.D.CountPick.thread in
+    g.C.CountTag.thread in let other = g.D.CountTag.thread in
     subst (λ table. (seat.table_id ≡ table.table_id) × (at < table.table_id.words) × Allows (LotRule
     table.key.0 table.key.1.family) table.table_id.slots seat.id seat.me at (λ n. n) (sees_two one other
     (step table.table_id.slots at 0 0 none) seat.me)) (sym c.seats.ensures) (

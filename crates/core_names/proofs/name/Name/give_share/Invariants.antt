@@ -1,5 +1,5 @@
 use Rattle.core_names.specs.Names.{count_at}
 use Rattle.core_names.proofs.name.Name.give_share.Given as goal
 
-abbrev pub ghosts-give_picked : goal.ghosts-give_picked
-ghosts-give_picked a = record { thread = a.thread; at = count_at a.count.number; said = 0 }
+abbrev pub ghosts-give_tagged : goal.ghosts-give_tagged
+ghosts-give_tagged a = record { thread = a.thread; at = count_at a.count.number; said = 0 }

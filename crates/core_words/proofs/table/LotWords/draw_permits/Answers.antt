@@ -27,7 +27,7 @@ compare_exchange-found-requires g c = let lot = c.args.self.now in let sized = l
       draw_permits_of lot.table.shared.key.0
           lot.table.shared.key.1.family lot.table.shared.table_id.slots c.loop-seen.seat.id
           c.loop-seen.seat.me
-          c.args.permits g.M.ManyPick.many c.loop-seen.seen c.requires.many.0 c.requires.many.1
+          c.args.permits g.M.ManyTag.many c.loop-seen.seen c.requires.many.0 c.requires.many.1
           c.loop-seen.invariant.saw (omega arith),
     )
 
@@ -81,7 +81,7 @@ returns-then-found-seen-clause-own g c = let same = c.loop-seen.invariant in let
 pub returns-then-found-seen-clause-held : goal.returns-then-found-seen-clause-held
 returns-then-found-seen-clause-held g c = let same = c.loop-seen.invariant in let drew =
     c.compare_exchange-found.ensures.2.0 c.if-found-seen.true in
-    let before = c.loop-seen.seat.me.0 in let many = g.M.ManyPick.many in
+    let before = c.loop-seen.seat.me.0 in let many = g.M.ManyTag.many in
     ap (λ m. m.0.owns) drew ∙ ap (λ (n : ℕ). holding (word_index n (Semaphore many)) many ++ before.owns)
     c.if-found-seen.true
     ∙ ap (λ (k : ℕ). holding (word_index c.loop-seen.seen (Semaphore k)) k ++ before.owns) c.requires.many.0
@@ -91,7 +91,7 @@ returns-then-found-seen-clause-held g c = let same = c.loop-seen.invariant in le
 pub returns-then-found-seen-clause-drawn : goal.returns-then-found-seen-clause-drawn
 returns-then-found-seen-clause-drawn g c = let same = c.loop-seen.invariant in let drew =
     c.compare_exchange-found.ensures.2.0 c.if-found-seen.true in
-    let seen = c.loop-seen.seen in let before = c.loop-seen.seat.me.0 in let many = g.M.ManyPick.many in (
+    let seen = c.loop-seen.seen in let before = c.loop-seen.seat.me.0 in let many = g.M.ManyTag.many in (
       omega (arith, c.loop-seen-test.true),
       ap (λ m. m.0.drawn) drew ∙ ap (λ (n : ℕ). numbered n (Semaphore many ∷ []) ++ before.drawn)
           c.if-found-seen.true ∙ ap (λ (k : ℕ). numbered seen (Semaphore k ∷ []) ++ before.drawn)

@@ -13,7 +13,7 @@ use Rattle.core_words.proofs.table.LotWords.set_bits.Goals as goal
 
 pub load-seen-requires : goal.load-seen-requires
 load-seen-requires g c = let word = c.args.word in
-    table_allows_load c.args.self.now c.args.seat.now word c.requires.own g.P.PermitPick.family g.B.Bits.bits
+    table_allows_load c.args.self.now c.args.seat.now word c.requires.own g.P.PermitTag.family g.B.Bits.bits
     c.requires.pick.1
     (subst (λ (bits : ℕ). MayStep word.kind (word_index word.number word.kind) (Or bits)
     c.args.seat.now.me.0.owns) (sym c.requires.pick.0) c.requires.may) c.index-at.ensures
@@ -32,7 +32,7 @@ fetch_or-requires g c = let word = c.args.word in let seen = c.load-seen.result 
       ),
       c.requires.own.1,
     )
-    g.P.PermitPick.family c.requires.pick.1
+    g.P.PermitTag.family c.requires.pick.1
     (subst (λ (owns : List Ownership). MayStep word.kind (word_index word.number word.kind) (Or c.args.bits)
     owns) (sym (ap (λ m. m.0.owns) same)) c.requires.may) c.index-at.ensures refl
 
@@ -40,7 +40,7 @@ pub returns-then-seen-bits : goal.returns-then-seen-bits
 returns-then-seen-bits g c = let word = c.args.word in let told = c.load-seen.ensures in let seen =
     c.load-seen.result in (
       told.0,
-      tells_step g.P.PermitPick.family word.number word.kind c.args.seat.now.me c.load-seen.new.seat.me seen
+      tells_step g.P.PermitTag.family word.number word.kind c.args.seat.now.me c.load-seen.new.seat.me seen
           c.index-at.ensures (ap (λ (bits : ℕ). Or bits) (sym c.requires.pick.0))
           (told.2.0 (subst (λ (bits : ℕ). bit_or seen bits ≡ seen) (sym c.requires.pick.0)
           c.if-seen-bits.true)),
@@ -52,8 +52,8 @@ returns g c = let word = c.args.word in let told = c.fetch_or.ensures in let see
     let same = c.load-seen.ensures.2.1
     (λ e. c.if-seen-bits.false (subst (λ (bits : ℕ). bit_or seen bits ≡ seen) c.requires.pick.0 e)) in (
       told.0 ∙ c.load-seen.ensures.0,
-      subst (λ (me : Me PermitSlot View). TakesStepOf g.P.PermitPick.family word.kind
+      subst (λ (me : Me PermitSlot View). TakesStepOf g.P.PermitTag.family word.kind
           (word_index word.number word.kind) (Or c.args.bits) me c.fetch_or.result after) same
-          (tells_step g.P.PermitPick.family word.number word.kind c.load-seen.new.seat.me after
+          (tells_step g.P.PermitTag.family word.number word.kind c.load-seen.new.seat.me after
           c.fetch_or.result c.index-at.ensures refl told.2),
     )

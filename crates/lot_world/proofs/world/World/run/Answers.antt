@@ -6,7 +6,7 @@ use Rattle.lot_laws.proofs.calls.Runs.{run_state, run_outcomes}
 use Rattle.std.proofs.lemmas.List.{take_all}
 use Rattle.std.proofs.Common.{◌≡◌, ap, ◌∙◌, ◌++◌, arith}
 use Rattle.lot_machine.specs.Machine.{after_steps, step_outcomes}
-use Rattle.lot_laws.proofs.alone.WorldRuns.{tells_run, tells_refines, world_kept}
+use Rattle.lot_laws.proofs.promises.WorldRuns.{tells_run, tells_refines, world_kept}
 use Rattle.lot_laws.proofs.promises.Headline.{holds_after, tells_behaves, tells_guaranteed, tells_headline}
 use Rattle.lot_laws.proofs.promises.Overtaken.{nobody_is_overtaken}
 use Rattle.lot_rests.proofs.Rest.{worlds_come_to_rest}

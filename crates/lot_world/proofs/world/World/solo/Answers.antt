@@ -1,6 +1,6 @@
 use Rattle.lot_laws.specs.SitesOf.{IsWorld}
-use Rattle.lot_laws.proofs.alone.EndsOrSleeps.{ends_alone, ends_or_barred, rests_alone, rests_or_barred, tries_alone}
-use Rattle.lot_laws.proofs.alone.WorldRuns.{solo_runs}
+use Rattle.lot_alone.proofs.EndsOrSleeps.{ends_alone, ends_or_barred, rests_alone, rests_or_barred, tries_alone}
+use Rattle.lot_laws.proofs.promises.WorldRuns.{solo_runs}
 use Rattle.lot_laws.proofs.promises.Headline.{solo_holds}
 use Rattle.lot_world.proofs.world.World.solo.Goals as goal
 

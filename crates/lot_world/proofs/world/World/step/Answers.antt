@@ -7,7 +7,7 @@ use Rattle.lot_laws.proofs.promises.OwingStays.{owes_since}
 use Rattle.std.proofs.Common.{[], ◌∷◌, refl}
 use Rattle.lot_machine.specs.Machine.{after}
 use Rattle.lot_laws.proofs.promises.Headline.{holds_after, step_behaves, step_guaranteed}
-use Rattle.lot_laws.proofs.alone.WorldRuns.{of_step, step_is, world_after, world_step}
+use Rattle.lot_laws.proofs.promises.WorldRuns.{of_step, step_is, world_after, world_step}
 use Rattle.spec_locks.proofs.UserLaws.{readers_stay_out, rereaders_pass, upgrades_hold, downgrades_hold}
 use Rattle.lot_world.proofs.world.World.step.Goals as goal
 

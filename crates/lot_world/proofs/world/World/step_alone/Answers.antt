@@ -1,7 +1,7 @@
 use Rattle.std.proofs.Common.{◌-◌, sym, ap, ◌∙◌, arith}
 use Rattle.lot_machine.specs.Machine.{SoloEnd}
 use Rattle.lot_machine.proofs.Shape.{size_more}
-use Rattle.lot_laws.proofs.alone.AloneSteps.{alone_stuck, alone_goes, alone_rests, solo_end}
+use Rattle.lot_alone.proofs.AloneSteps.{alone_stuck, alone_goes, alone_rests, solo_end}
 use Rattle.lot_world.proofs.world.World.step_alone.Goals as goal
 
 pub returns-in-NotNow-clause-state : goal.returns-in-NotNow-clause-state

@@ -21,7 +21,7 @@ split-guard-requires-clause-held g c = let n = c.args.self.now.word.number in le
 pub returns-then-not-is_parked-clause-over : goal.returns-then-not-is_parked-clause-over
 returns-then-not-is_parked-clause-over g c = let word = c.args.self.now.word in let is = c.args.self.now.drawn.1 in
     let n = word.number in let old = c.args.token.now in let kept = c.split-guard in
-    let by = c.word_again-seen in let mid = by.new.token in let seen = by.result in
+    let by = c.step_word_unrecorded-seen in let mid = by.new.token in let seen = by.result in
     λ before waits.
     let first = first_step_of word is Load seen before old mid waits.1 (ap (λ (v : View). v.steps)
     by.ensures.stepped ∙ ap (λ (v : View). v.steps ++ step (word_index n word.kind) Load seen)
@@ -39,7 +39,7 @@ returns-then-not-is_parked-clause-over g c = let word = c.args.self.now.word in 
 pub bump_after-requires-clause-begun : goal.bump_after-requires-clause-begun
 bump_after-requires-clause-begun g c = let word = c.args.self.now.word in let is = c.args.self.now.drawn.1 in
     let n = word.number in let old = c.args.token.now in let kept = c.split-guard in
-    let by = c.word_again-seen in let mid = by.new.token in let seen = by.result in
+    let by = c.step_word_unrecorded-seen in let mid = by.new.token in let seen = by.result in
     let before = c.requires.waits.0 in let waits = c.requires.waits.1 in
     let first = first_step_of word is Load seen before old mid waits.1 (ap (λ (v : View). v.steps)
     by.ensures.stepped ∙ ap (λ (v : View). v.steps ++ step (word_index n word.kind) Load seen)
@@ -67,7 +67,7 @@ bump_after-requires-clause-begun g c = let word = c.args.self.now.word in let is
 pub returns-clause-over : goal.returns-clause-over
 returns-clause-over g c = let word = c.args.self.now.word in let is = c.args.self.now.drawn.1 in
     let n = word.number in let old = c.args.token.now in let kept = c.split-guard in
-    let by = c.word_again-seen in let mid = by.new.token in let seen = by.result in
+    let by = c.step_word_unrecorded-seen in let mid = by.new.token in let seen = by.result in
     λ before waits.
     let first = first_step_of word is Load seen before old mid waits.1 (ap (λ (v : View). v.steps)
     by.ensures.stepped ∙ ap (λ (v : View). v.steps ++ step (word_index n word.kind) Load seen)

@@ -21,9 +21,9 @@ use Rattle.raw_mutexes.proofs.raw_mutex.RawMutex.unlock_fair_fast.Goals as goal
 pub returns-then-seen-eq-LOCKED-clause-over : goal.returns-then-seen-eq-LOCKED-clause-over
 returns-then-seen-eq-LOCKED-clause-over c = let mutex = c.args.self.now in let n = mutex.word.number
     in let old = c.args.token.now in let v = view_of old in
-    let new = c.leave_open_alone-seen.new.token in let seen = c.leave_open_alone-seen.result in let one =
+    let new = c.unlock_if_alone-seen.new.token in let seen = c.unlock_if_alone-seen.result in let one =
     c.if-seen-eq-LOCKED.true in let some : seen ≢ 0 = omega (arith, one) in let at = word_index n mutex.word.kind in
-    let left : view_of new ≡ stepping v at (Exchange 1 0) seen = c.leave_open_alone-seen.ensures.stepped some
+    let left : view_of new ≡ stepping v at (Exchange 1 0) seen = c.unlock_if_alone-seen.ensures.stepped some
     ∙ ap (λ b. cond b (stepping v at (Exchange 1 0) seen)
     (stepping (takes_in v (piece_of mutex.word Exclusive)) at (Exchange 1 0) seen)) (eq-eqb seen 1 one) in
     let added = ap (λ (v : View). v.steps) left
@@ -35,17 +35,17 @@ returns-then-seen-eq-LOCKED-clause-over c = let mutex = c.args.self.now in let n
       added ∙ sym (append-nil (steps_of old ++ step (mutex_at n) (Exchange 1 0) seen)),
       subst (λ b. TookIfParked n (not b) [] (last_of new)) (sym (eq-eqb seen 1 one)) (
         refl,
-        c.leave_open_alone-seen.ensures.own.1,
+        c.unlock_if_alone-seen.ensures.own.1,
       ),
     ) in (
       keeps_rights,
-      path_at_once n UnlockFair seen old new one added c.leave_open_alone-seen.ensures.untold,
+      path_at_once n UnlockFair seen old new one added c.unlock_if_alone-seen.ensures.untold,
       released,
     )
 
 pub returns-clause-begun : goal.returns-clause-begun
 returns-clause-begun c = let mutex = c.args.self.now in let n = mutex.word.number in
-    let old = c.args.token.now in let v = view_of old in let by = c.leave_open_alone-seen in
+    let old = c.args.token.now in let v = view_of old in let by = c.unlock_if_alone-seen in
     let new = by.new.token in let seen = by.result in let number : new.number ≡ old.number = search rules in
     let other = c.if-seen-eq-LOCKED.false in let at = word_index n mutex.word.kind in
     let owns = λ (left : (view_of new).owns ≡ owning at Exclusive ∷ v.owns). left

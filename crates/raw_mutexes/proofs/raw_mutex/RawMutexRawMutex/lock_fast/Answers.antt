@@ -12,19 +12,19 @@ use Rattle.raw_mutexes.proofs.raw_mutex.RawMutexRawMutex.lock_fast.Goals as goal
 
 pub returns-in-Ok-clause-over : goal.returns-in-Ok-clause-over
 returns-in-Ok-clause-over c = let mutex = c.args.self.now in let n = mutex.word.number in let old =
-    c.args.token.now in let new = c.enter_open.new.token in
+    c.args.token.now in let new = c.lock_with_permit.new.token in
     let added = ap (λ (v : View). v.steps) c.in-Ok.ensures.taken.0
     ∙ ap (λ (k : WordKind). (view_of old).steps ++ step (word_index n k) (Exchange 0 1) 0) mutex.drawn.1
     in
     let keeps_rights : StaysAs old new = search rules in (
       keeps_rights,
-      path_at_once n Lock 0 old new refl added c.enter_open.ensures.untold,
+      path_at_once n Lock 0 old new refl added c.lock_with_permit.ensures.untold,
       (search rules, search rules),
     )
 
 pub returns-in-Err-clause-begun : goal.returns-in-Err-clause-begun
 returns-in-Err-clause-begun c = let mutex = c.args.self.now in let n = mutex.word.number in let old =
-    c.args.token.now in let new = c.enter_open.new.token in let seen = c.in-Err.seen in
+    c.args.token.now in let new = c.lock_with_permit.new.token in let seen = c.in-Err.seen in
     let number : new.number ≡ old.number = search rules in (
       (λ some. let stepped = c.in-Err.ensures.missed some in (
         number,
@@ -32,13 +32,13 @@ returns-in-Err-clause-begun c = let mutex = c.args.self.now in let n = mutex.wor
             ++ step (word_index n k) (Exchange 0 1) seen) mutex.drawn.1,
         ap (λ (v : View). v.owns) stepped.0,
         omega (arith, some),
-        c.enter_open.ensures.untold,
+        c.lock_with_permit.ensures.untold,
       )),
       (λ none. let same = c.in-Err.ensures.waits none in (
         number,
         ap (λ (v : View). v.steps) same,
         ap (λ (v : View). v.owns) same,
-        c.enter_open.ensures.own.1,
-        c.enter_open.ensures.untold,
+        c.lock_with_permit.ensures.own.1,
+        c.lock_with_permit.ensures.untold,
       )),
     )

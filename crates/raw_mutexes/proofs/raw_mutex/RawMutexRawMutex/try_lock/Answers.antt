@@ -12,7 +12,7 @@ use Rattle.raw_mutexes.proofs.raw_mutex.RawMutexRawMutex.try_lock.Goals as goal
 pub returns-in-Some-clause-path : goal.returns-in-Some-clause-path
 returns-in-Some-clause-path c = let mutex = c.args.self.now in let n = mutex.word.number in let steps =
     (view_of c.args.token.now).steps in
-    let tried = c.try_enter_open-taken in let seen = tried.result.0 in let free : is_locked seen ≡ false =
+    let tried = c.try_lock_with_permit-taken in let seen = tried.result.0 in let free : is_locked seen ≡ false =
     search rules in
     path_of_try n false seen c.args.token.now tried.new.token free
     (ap (λ (v : View). v.steps) tried.ensures.stepped
@@ -22,7 +22,7 @@ returns-in-Some-clause-path c = let mutex = c.args.self.now in let n = mutex.wor
 pub returns-in-None-clause-path : goal.returns-in-None-clause-path
 returns-in-None-clause-path c = let mutex = c.args.self.now in let n = mutex.word.number in let steps =
     (view_of c.args.token.now).steps in
-    let tried = c.try_enter_open-taken in let seen = tried.result.0 in let locked : is_locked seen ≡ true =
+    let tried = c.try_lock_with_permit-taken in let seen = tried.result.0 in let locked : is_locked seen ≡ true =
     search rules in
     path_of_try n true seen c.args.token.now tried.new.token locked
     (ap (λ (v : View). v.steps) tried.ensures.stepped

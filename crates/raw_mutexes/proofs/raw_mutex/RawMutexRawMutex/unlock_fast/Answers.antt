@@ -17,25 +17,25 @@ use Rattle.raw_mutexes.proofs.raw_mutex.RawMutexRawMutex.unlock_fast.Goals as go
 
 pub returns-then-seen-eq-LOCKED-clause-over : goal.returns-then-seen-eq-LOCKED-clause-over
 returns-then-seen-eq-LOCKED-clause-over c = let mutex = c.args.self.now in let n = mutex.word.number
-    in let old = c.args.token.now in let new = c.leave_open-seen.new.token in let seen = c.leave_open-seen.result in
+    in let old = c.args.token.now in let new = c.unlock_with_permit-seen.new.token in let seen = c.unlock_with_permit-seen.result in
     let one = c.if-seen-eq-LOCKED.true in
     let some : seen ≢ 0 = omega (arith, one) in
     let none : is_parked seen ≡ false = subst (λ k. is_parked k ≡ false) (sym one) refl in
     let added : steps_of new ≡ steps_of old ++ step (mutex_at n) (Sub 1) seen =
-    ap (λ (v : View). v.steps) (c.leave_open-seen.ensures.stepped some)
+    ap (λ (v : View). v.steps) (c.unlock_with_permit-seen.ensures.stepped some)
     ∙ ap (λ (k : WordKind). (view_of old).steps ++ step (word_index n k) (Sub 1) seen) mutex.drawn.1 in
     let keeps_rights : StaysAs old new = search rules in
     let released : TookIfSeen n Unlock (steps_of old) (steps_of new) (last_of new) = (
       seen,
       [],
       added ∙ sym (append-nil (steps_of old ++ step (mutex_at n) (Sub 1) seen)),
-      subst (λ b. TookIfParked n b [] (last_of new)) (sym none) (refl, c.leave_open-seen.ensures.own.1),
+      subst (λ b. TookIfParked n b [] (last_of new)) (sym none) (refl, c.unlock_with_permit-seen.ensures.own.1),
     ) in
-    (keeps_rights, path_at_once n Unlock seen old new none added c.leave_open-seen.ensures.untold, released)
+    (keeps_rights, path_at_once n Unlock seen old new none added c.unlock_with_permit-seen.ensures.untold, released)
 
 pub returns-clause-begun : goal.returns-clause-begun
 returns-clause-begun c = let mutex = c.args.self.now in let n = mutex.word.number in
-    let old = c.args.token.now in let left = c.leave_open-seen in let new = left.new.token in
+    let old = c.args.token.now in let left = c.unlock_with_permit-seen in let new = left.new.token in
     let seen = left.result in let number : new.number ≡ old.number = search rules in
     let other = c.if-seen-eq-LOCKED.false in (
       (λ some. (

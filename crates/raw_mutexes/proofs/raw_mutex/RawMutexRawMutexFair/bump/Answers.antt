@@ -14,13 +14,13 @@ use Rattle.raw_mutexes.proofs.raw_mutex.RawMutexRawMutexFair.bump.Goals as goal
 
 pub returns-then-not-is_parked-clause-path : goal.returns-then-not-is_parked-clause-path
 returns-then-not-is_parked-clause-path g c = let mutex = c.args.self.now in let n = mutex.word.number in
-    let seen = c.word_again-seen.result in let none : is_parked seen ≡ false = search rules in
-    path_at_once n Bump seen c.args.token.now c.word_again-seen.new.token none
-    (ap (λ (v : View). v.steps) c.word_again-seen.ensures.stepped
+    let seen = c.step_word_unrecorded-seen.result in let none : is_parked seen ≡ false = search rules in
+    path_at_once n Bump seen c.args.token.now c.step_word_unrecorded-seen.new.token none
+    (ap (λ (v : View). v.steps) c.step_word_unrecorded-seen.ensures.stepped
     ∙ ap (λ (v : View). v.steps ++ step (word_index n mutex.word.kind) Load seen) c.may_begin.ensures.view
     ∙ ap (λ (k : WordKind). (view_of c.args.token.now).steps ++ step (word_index n k) Load seen)
     mutex.drawn.1)
-    (c.word_again-seen.ensures.untold ∙ c.may_begin.ensures.untold)
+    (c.step_word_unrecorded-seen.ensures.untold ∙ c.may_begin.ensures.untold)
 
 pub bump_slow-requires-clause-begun : goal.bump_slow-requires-clause-begun
 bump_slow-requires-clause-begun g c = let n = c.args.self.now.word.number in
@@ -43,12 +43,12 @@ bump_slow-requires-clause-begun g c = let n = c.args.self.now.word.number in
 
 pub bump_slow-requires-2-clause-begun : goal.bump_slow-requires-2-clause-begun
 bump_slow-requires-2-clause-begun g c = let mutex = c.args.self.now in let n = mutex.word.number in
-    let old = c.args.token.now in let mid = c.word_again-seen.new.token in let new = c.join-2.new.token in
-    let seen = c.word_again-seen.result in let parked : is_parked seen ≡ true = search rules in
+    let old = c.args.token.now in let mid = c.step_word_unrecorded-seen.new.token in let new = c.join-2.new.token in
+    let seen = c.step_word_unrecorded-seen.result in let parked : is_parked seen ≡ true = search rules in
     let number : new.number ≡ old.number = search rules in
     let steps : (view_of new).steps ≡ (view_of old).steps ++ step (mutex_at n) Load seen =
     ap (λ (v : View). v.steps) c.join-2.ensures.joined
-    ∙ ap (λ (v : View). v.steps) c.word_again-seen.ensures.stepped
+    ∙ ap (λ (v : View). v.steps) c.step_word_unrecorded-seen.ensures.stepped
     ∙ ap (λ (v : View). v.steps ++ step (word_index n mutex.word.kind) Load seen) c.may_begin.ensures.view
     ∙ ap (λ (k : WordKind). (view_of old).steps ++ step (word_index n k) Load seen) mutex.drawn.1 in
     let keeps_rights : (view_of mid).owns ≡ (view_of old).owns = search rules in
@@ -62,7 +62,7 @@ bump_slow-requires-2-clause-begun g c = let mutex = c.args.self.now in let n = m
           steps,
           owns,
           (parked, subst (λ os. has (mutex_ownership n) os ≡ true) (sym owns) has_it),
-          c.join-2.ensures.untold ∙ c.word_again-seen.ensures.untold ∙ c.may_begin.ensures.untold,
+          c.join-2.ensures.untold ∙ c.step_word_unrecorded-seen.ensures.untold ∙ c.may_begin.ensures.untold,
         )),
         (λ none. let never : false ≡ true = subst (λ k. is_parked k ≡ true) none parked in absurd cc),
       ),

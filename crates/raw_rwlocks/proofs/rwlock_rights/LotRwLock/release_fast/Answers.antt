@@ -9,7 +9,7 @@ use Rattle.core_words.specs.Views.{owning}
 use Rattle.parking_lot_core.specs.Tokens.{view_of}
 use Rattle.run_base.specs.Paths.{rwlock_at}
 use Rattle.run_locks.specs.Halves.{HasBegunRwLock, HasEndedRwLock}
-use Rattle.run_locks.specs.declared.rwlock_calls.Rest.{Rest}
+use Rattle.run_locks.specs.declared.rwlock_calls.SlowPart.{SlowPart}
 use Rattle.raw_rwlocks.proofs.RwLockReleases.{begins_releasing, released}
 use Rattle.raw_rwlocks.proofs.rwlock_rights.LotRwLock.release_fast.Goals as goal
 
@@ -29,7 +29,7 @@ returns-in-Ok-clause-over c = let is : c.call_fast.result ≡ Ok c.in-Ok._answer
     (piece (owning (rwlock_at c.args.self.now.word.number) (owner_for w)))) c.wanted.ensures
     c.join.ensures.joined)
     c.join.ensures.untold c.call_fast.new.token c.in-Ok._answer
-    (subst (λ (r : Result Answer Rest). MatchResult r (λ answer. HasEndedRwLock ⊥ c.args.self.now.word
+    (subst (λ (r : Result Answer SlowPart). MatchResult r (λ answer. HasEndedRwLock ⊥ c.args.self.now.word
     c.args.self.now.settings.admission (Release c.args.access) answer c.join.new.token
     c.call_fast.new.token) (λ rest. HasBegunRwLock c.args.self.now.word c.args.self.now.settings.admission
     (Release c.args.access) rest c.join.new.token c.call_fast.new.token)) is c.call_fast.ensures.over)
@@ -41,7 +41,7 @@ returns-in-Err-clause-over c = let is : c.call_fast.result ≡ Err c.in-Err.rest
   subst (λ (w : Want). view_of c.join.new.token ≡ takes_in (view_of c.args.token.now)
       (piece (owning (rwlock_at c.args.self.now.word.number) (owner_for w)))) c.wanted.ensures
       c.join.ensures.joined,
-  subst (λ (r : Result Answer Rest). MatchResult r (λ answer. HasEndedRwLock ⊥ c.args.self.now.word
+  subst (λ (r : Result Answer SlowPart). MatchResult r (λ answer. HasEndedRwLock ⊥ c.args.self.now.word
       c.args.self.now.settings.admission (Release c.args.access) answer c.join.new.token
       c.call_fast.new.token) (λ rest. HasBegunRwLock c.args.self.now.word c.args.self.now.settings.admission
       (Release c.args.access) rest c.join.new.token c.call_fast.new.token)) is c.call_fast.ensures.over,

@@ -2,8 +2,8 @@ use Rattle.std.proofs.Common.{rules, ◌≡◌, subst}
 use Rattle.steps_rwlock.specs.declared.purposes.RwLockPurpose.TheVariants.{Release}
 use Rattle.parking_lot_core.specs.Tokens.{view_of}
 use Rattle.run_locks.specs.Halves.{HasBegunRwLock}
-use Rattle.run_locks.specs.declared.rwlock_calls.Rest.{Rest}
-use Rattle.run_locks.specs.declared.rwlock_calls.Rest.TheVariants.{GoesOn, Missed, NotBegun}
+use Rattle.run_locks.specs.declared.rwlock_calls.SlowPart.{SlowPart}
+use Rattle.run_locks.specs.declared.rwlock_calls.SlowPart.TheVariants.{GoesOn, Missed, NotBegun}
 use Rattle.raw_rwlocks.proofs.RwLockReleases.{begins_releasing, released}
 use Rattle.raw_rwlocks.proofs.rwlock_rights.LotRwLock.release_slow.Goals as goal
 
@@ -13,7 +13,7 @@ call_slow-requires-clause-begun g c = let begun = c.requires.begun in let is : c
       begun.1.0,
       (view_of begun.0).owns,
       begins_releasing c.args.self.now c.args.access begun.0 begun.1.0 begun.1.1 begun.1.2,
-      subst (λ (r : Rest). HasBegunRwLock c.args.self.now.word c.args.self.now.settings.admission
+      subst (λ (r : SlowPart). HasBegunRwLock c.args.self.now.word c.args.self.now.settings.admission
           (Release c.args.access) r c.requires.begun.1.0 c.args.token.now) is begun.1.3,
     )
 
@@ -23,7 +23,7 @@ missed-requires-clause-begun g c = let begun = c.requires.begun in let is : c.ar
       begun.1.0,
       (view_of begun.0).owns,
       begins_releasing c.args.self.now c.args.access begun.0 begun.1.0 begun.1.1 begun.1.2,
-      subst (λ (r : Rest). HasBegunRwLock c.args.self.now.word c.args.self.now.settings.admission
+      subst (λ (r : SlowPart). HasBegunRwLock c.args.self.now.word c.args.self.now.settings.admission
           (Release c.args.access) r c.requires.begun.1.0 c.args.token.now) is begun.1.3,
     )
 
@@ -34,7 +34,7 @@ returns-in-GoesOn-clause-over g c = λ before begun. let is : c.args.rest ≡ Go
     c.call_slow.result
     (c.call_slow.ensures.over begun.0 (view_of before).owns (begins_releasing c.args.self.now c.args.access
     before begun.0 begun.1 begun.2)
-    (subst (λ (r : Rest). HasBegunRwLock c.args.self.now.word c.args.self.now.settings.admission
+    (subst (λ (r : SlowPart). HasBegunRwLock c.args.self.now.word c.args.self.now.settings.admission
     (Release c.args.access) r begun.0 c.args.token.now) is begun.3))
 
 pub returns-in-Missed-clause-over : goal.returns-in-Missed-clause-over
@@ -44,7 +44,7 @@ returns-in-Missed-clause-over g c = λ before begun. let is : c.args.rest ≡ Mi
     c.missed.result
     (c.missed.ensures.over begun.0 (view_of before).owns (begins_releasing c.args.self.now c.args.access
     before begun.0 begun.1 begun.2)
-    (subst (λ (r : Rest). HasBegunRwLock c.args.self.now.word c.args.self.now.settings.admission
+    (subst (λ (r : SlowPart). HasBegunRwLock c.args.self.now.word c.args.self.now.settings.admission
     (Release c.args.access) r begun.0 c.args.token.now) is begun.3))
 
 pub call_in_turn-requires-clause-begun : goal.call_in_turn-requires-clause-begun
@@ -52,7 +52,7 @@ call_in_turn-requires-clause-begun g c = let begun = c.requires.begun in let is 
   begun.1.0,
   (view_of begun.0).owns,
   begins_releasing c.args.self.now c.args.access begun.0 begun.1.0 begun.1.1 begun.1.2,
-  subst (λ (r : Rest). HasBegunRwLock c.args.self.now.word c.args.self.now.settings.admission
+  subst (λ (r : SlowPart). HasBegunRwLock c.args.self.now.word c.args.self.now.settings.admission
       (Release c.args.access) r c.requires.begun.1.0 c.args.token.now) is begun.1.3,
 )
 
@@ -63,5 +63,5 @@ returns-in-NotBegun-clause-over g c = λ before begun. let is : c.args.rest ≡ 
     c.call_in_turn.result
     (c.call_in_turn.ensures.over begun.0 (view_of before).owns (begins_releasing c.args.self.now c.args.access
     before begun.0 begun.1 begun.2)
-    (subst (λ (r : Rest). HasBegunRwLock c.args.self.now.word c.args.self.now.settings.admission
+    (subst (λ (r : SlowPart). HasBegunRwLock c.args.self.now.word c.args.self.now.settings.admission
     (Release c.args.access) r begun.0 c.args.token.now) is begun.3))

@@ -1,4 +1,0 @@
-use Rattle.core_words.proofs.table.LotWords.step_picked.Given as goal
-
-abbrev pub ghosts-set_bits : goal.ghosts-set_bits
-ghosts-set_bits g a = record { bits = a.bits }

@@ -1,0 +1,2 @@
+//! Calls of one thread that goes on alone end, or fall asleep, within a bounded number of steps.
+#![tactic(auto)]
