@@ -11,7 +11,7 @@ use Rattle.lot_machine.specs.Fits.{SameSize}
 use Rattle.lot_machine.proofs.Shape.{after_size}
 use Rattle.lot_laws.specs.Refinement.{locks_of}
 use Rattle.lot_rests.specs.Rests.{NobodyGoes}
-use Rattle.lot_rests.proofs.Turns.{left}
+use Rattle.lot_rests.proofs.Turns.{steps_left}
 use Rattle.lot_world.specs.Quiet.{IsDraining, IsAllOver}
 use Rattle.lot_world.specs.Full.{IsStrict}
 use Rattle.lot_world.specs.Ordered.{IsOrdered, NobodyInside, begin_of}
@@ -77,7 +77,7 @@ come_size w d h = ap (λ (x : State). length x.places) (sym h.leads) ∙ steps_s
 record HasReleased (w : State) (d e : Progress) : Type 0 where
   pub come : HasCome w e
   pub ready : IsReady e.state
-  pub few : length e.steps + left e.state ≤ length d.steps + left d.state + (most_more (length w.places) + 1)
+  pub few : length e.steps + steps_left e.state ≤ length d.steps + steps_left d.state + (most_more (length w.places) + 1)
   pub lower : owed e.state + 1 ≤ owed d.state
 
 module _ (w : State) (d : Progress) (s : Step) (ready : IsReady d.state) (b : BeginsRelease d.state s)
@@ -146,8 +146,8 @@ module _ (w : State) (d : Progress) (s : Step) (ready : IsReady d.state) (b : Be
     few = let few = went.spends.few in
         let long : length (d.steps ++ begin_of b.thread b.call ∷ []) ≡ length d.steps + 1 =
         length_more d.steps (begin_of b.thread b.call) in
-        let adds : left begun.state ≤ left d.state + most_more (length w.places) =
-        subst (λ n. left begun.state ≤ left d.state + most_more n) (come_size w d h)
+        let adds : steps_left begun.state ≤ steps_left d.state + most_more (length w.places) =
+        subst (λ n. steps_left begun.state ≤ steps_left d.state + most_more n) (come_size w d h)
         (begin_adds d.state b.thread b.call) in
         omega arith;
     lower = owed_less d.state end.state b.thread size b.there others unspent spent;
@@ -166,8 +166,8 @@ pub record IsEnded (w : State) (n : ℕ) (d e : Progress) : Type 0 where
   pub come : HasCome w e
   pub ready : IsReady e.state
   pub over : IsAllOver e.state
-  pub few : length e.steps + left e.state
-      ≤ length d.steps + left d.state + n * (most_more (length w.places) + 1)
+  pub few : length e.steps + steps_left e.state
+      ≤ length d.steps + steps_left d.state + n * (most_more (length w.places) + 1)
 
 ended_now : (w : State) (n : ℕ) (d : Progress) → IsReady d.state
     → first_release d.state 0 (length d.state.places) ≡ None → HasCome w d → IsEnded w n d d
@@ -208,7 +208,7 @@ released_end (suc n) w d ready h few = by_release (first_release d.state 0 (leng
           come = both.1.come;
           ready = both.1.ready;
           over = both.1.over;
-          few = once_more (length d.steps + left d.state) (length (release_taken d s).steps
-              + left (release_taken d s).state) (length end.steps + left end.state) n
+          few = once_more (length d.steps + steps_left d.state) (length (release_taken d s).steps
+              + steps_left (release_taken d s).state) (length end.steps + steps_left end.state) n
               (most_more (length w.places) + 1) both.0.few both.1.few;
         }

@@ -5,7 +5,7 @@ use Rattle.lot_machine.specs.Machine.{State, kind_at, word_at}
 use Rattle.lot_laws.specs.SitesOf.{IsWorld}
 use Rattle.lot_rests.specs.Rests.{NobodyGoes, most_steps}
 use Rattle.lot_rests.proofs.Rest.{left_most}
-use Rattle.lot_rests.proofs.Turns.{left}
+use Rattle.lot_rests.proofs.Turns.{steps_left}
 use Rattle.lot_world.specs.Drains.{IsDrain, IsDrainable, IsDrained}
 use Rattle.lot_world.specs.DrainLaws.{SchedulesDrain}
 use Rattle.lot_world.specs.Schedules.{Progress, clear, first_release, passed_through, release_taken, released}
@@ -81,16 +81,16 @@ module _ (w : State) (world : IsWorld w) (h : IsDrainable w) where
 
   few_steps : length (clear outer).steps ≤ 1000 * ((length w.places + 1) * (length w.places + 1))
   few_steps =
-      let before : left w ≤ (5 * length w.places + 1) * (63 * length w.places + 2 * 1) + 5 * length w.places =
-      subst (λ n. left w ≤ most_steps (length w.places) n) h.lock.one (left_most w) in
-      let settling : length inner.steps + left inner.state ≤ 0 + left w = inside.spends.few in
-      let releasing : length outer.steps + left outer.state
-      ≤ length inner.steps + left inner.state + length w.places * (most_more (length w.places) + 1) =
-      subst (λ n. length outer.steps + left outer.state
-      ≤ length inner.steps + left inner.state + n * (most_more (length w.places) + 1))
+      let before : steps_left w ≤ (5 * length w.places + 1) * (63 * length w.places + 2 * 1) + 5 * length w.places =
+      subst (λ n. steps_left w ≤ most_steps (length w.places) n) h.lock.one (left_most w) in
+      let settling : length inner.steps + steps_left inner.state ≤ 0 + steps_left w = inside.spends.few in
+      let releasing : length outer.steps + steps_left outer.state
+      ≤ length inner.steps + steps_left inner.state + length w.places * (most_more (length w.places) + 1) =
+      subst (λ n. length outer.steps + steps_left outer.state
+      ≤ length inner.steps + steps_left inner.state + n * (most_more (length w.places) + 1))
       (come_size w inner inside.spends.come) turned.few in
       let clearing : length (clear outer).steps ≤ length outer.steps + 130 = cleared.gone.few in
-      summed (left w) (left inner.state) (left outer.state) (length inner.steps) (length outer.steps)
+      summed (steps_left w) (steps_left inner.state) (steps_left outer.state) (length inner.steps) (length outer.steps)
       (length (clear outer).steps) ((5 * length w.places + 1) * (63 * length w.places + 2 * 1)
       + 5 * length w.places) (length w.places * (most_more (length w.places) + 1))
       (1000 * ((length w.places + 1) * (length w.places + 1))) before settling releasing clearing

@@ -17,7 +17,7 @@ use Rattle.lot_rests.specs.Rests.{NobodyGoes}
 use Rattle.lot_rests.proofs.Most.{ways_most, work_most}
 use Rattle.lot_rests.proofs.Rest.{left_most}
 use Rattle.lot_rests.proofs.Sums.{potential, sum_below, sum_but_one, sum_most}
-use Rattle.lot_rests.proofs.Turns.{clear_at, events, left, step_falls, ways_at, work_at}
+use Rattle.lot_rests.proofs.Turns.{clear_at, events, steps_left, step_falls, ways_at, work_at}
 use Rattle.lot_rests.proofs.Work.{work}
 use Rattle.lot_world.specs.Ordered.{begin_of}
 use Rattle.lot_world.specs.Schedules.{Progress, alone_by, go_alone, most_rounds, one_more, round, rounds}
@@ -82,7 +82,7 @@ refused_is w t e = ap (λ b. if b then go_outcome w t else outcome.NotNow) e
 pub record Spends (w : State) (d e : Progress) : Type 0 where
   pub come : HasCome w e
   pub world : IsWorld e.state
-  pub few : length e.steps + left e.state ≤ length d.steps + left d.state
+  pub few : length e.steps + steps_left e.state ≤ length d.steps + steps_left d.state
 
 spends_none : (w : State) (d : Progress) → IsWorld d.state → HasCome w d → Spends w d d
 spends_none w d world h = record { come = h; world = world; few = omega arith }
@@ -93,7 +93,7 @@ spends_one w d t world h can = record {
   come = one_more_comes w d (go_of t) h can;
   world = world_after d.state (go_of t) world;
   few = let long : length (d.steps ++ go_of t ∷ []) ≡ length d.steps + 1 = length_more d.steps (go_of t) in
-      let falls : left (after d.state (go_of t)) + 1 ≤ left d.state =
+      let falls : steps_left (after d.state (go_of t)) + 1 ≤ steps_left d.state =
       step_falls d.state (go_of t) world tt (possible_is d.state t can) in
       omega arith;
 }
@@ -222,7 +222,7 @@ pub record IsSettled (w : State) (d e : Progress) : Type 0 where
   pub spends : Spends w d e
   pub stuck : NobodyGoes e.state
 
-rounds_settle : (n : ℕ) (w : State) (d : Progress) → IsWorld d.state → HasCome w d → left d.state ≤ n
+rounds_settle : (n : ℕ) (w : State) (d : Progress) → IsWorld d.state → HasCome w d → steps_left d.state ≤ n
     → IsSettled w d (rounds n d)
 unfolding rounds
 rounds_settle zero w d world h few = record {
@@ -232,7 +232,7 @@ rounds_settle zero w d world h few = record {
   where
     by_bit : (u : ℕ) (b : Bool) → is_possible d.state (go_of u) ≡ b → is_possible d.state (go_of u) ≡ false
     by_bit u false e = e
-    by_bit u true e = absurd (let falls : left (after d.state (go_of u)) + 1 ≤ left d.state =
+    by_bit u true e = absurd (let falls : steps_left (after d.state (go_of u)) + 1 ≤ steps_left d.state =
         step_falls d.state (go_of u) world tt e in omega arith)
 rounds_settle (suc n) w d world h few =
     let one = round_spends w (length d.state.places) 0 d world h in
@@ -321,7 +321,7 @@ module _ (w : State) (t : ℕ) (c : Call) where
   short : sum_below (length w.places) (ways_at begun) ≤ 5 * length w.places
   short = sum_most (length w.places) 5 (ways_at begun) (λ u. ways_most (word_at begun) (place_at begun u))
 
-  adds : left begun ≤ left w + most_more (length w.places)
+  adds : steps_left begun ≤ steps_left w + most_more (length w.places)
   adds =
       let sum = works in
       let same : sum_below (length w.locks) (clear_at begun) ≡ sum_below (length w.locks) (clear_at w) = refl
@@ -330,9 +330,9 @@ module _ (w : State) (t : ℕ) (c : Call) where
       + sum_below (length w.locks) (clear_at begun)) (sum_below (length w.places) (ways_at w))
       (sum_below (length w.places) (ways_at begun)) (omega arith) short)
 
-  pub begin_adds : left (after w (begin_of t c)) ≤ left w + most_more (length w.places)
+  pub begin_adds : steps_left (after w (begin_of t c)) ≤ steps_left w + most_more (length w.places)
   begin_adds = either (is_possible w (begin_of t c))
     where
-      either : (b : Bool) → left (if b then begun else w) ≤ left w + most_more (length w.places)
+      either : (b : Bool) → steps_left (if b then begun else w) ≤ steps_left w + most_more (length w.places)
       either true = adds
       either false = omega arith
