@@ -167,6 +167,7 @@ pub fn first_step_in_turn<R: Wait>(
 ) -> u64
     requires own { IsTokenOf lot.now token.old × IsWordOf lot.now.words word }
     requires may { MayStep word.kind (word_index word.number word.kind) op (view_of token.old).owns }
+    requires forgotten { last_of token.old ≡ None }
     ensures own { IsSameThread lot.now token.old token.new × (last_of token.new ≡ None) }
     ensures untold { told_of token.new ≡ told_of token.old }
     ensures stepped { view_of token.new

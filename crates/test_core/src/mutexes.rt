@@ -16,7 +16,7 @@ pub fn try_lock(lot: &ParkingLot, token: &mut Token, word: Word) -> Option<Right
     ensures right { IfSome result
         (λ right. IsRightOf lot.now.words right × (right.word ≡ word) × (right.owner ≡ Exclusive)) }
 {
-    let found = lot.word(token, word, Op::Exchange { from: 0, to: 1 });
+    let found = lot.step_word(token, word, Op::Exchange { from: 0, to: 1 });
     if found != 0 {
         return None;
     }
@@ -33,5 +33,5 @@ pub fn unlock(lot: &ParkingLot, token: &mut Token, right: Right) -> u64
 {
     let word = right.word();
     lot.join_right(token, right);
-    lot.word(token, word, Op::Sub(1))
+    lot.step_word(token, word, Op::Sub(1))
 }

@@ -159,14 +159,14 @@ pub solo_world : (n : ℕ) (w : State) (t : ℕ) (last : Outcome) → IsWorld w 
 unfolding solo
 solo_world zero w t last h = h
 solo_world (suc n) w t last h = by_outcome (step_outcome w (go_of t)) (solo_world n (after w (go_of t)) t
-    outcome.TheVariants.Step (world_after w (go_of t) h))
+    outcome.Step (world_after w (go_of t) h))
   where
     by_outcome : (o : Outcome)
-        → IsWorld (solo n (after w (go_of t)) t outcome.TheVariants.Step).state
+        → IsWorld (solo n (after w (go_of t)) t outcome.Step).state
         → IsWorld (alone_after o w (after w (go_of t)) last (solo n (after w (go_of t)) t
-        outcome.TheVariants.Step)).state
-    by_outcome outcome.TheVariants.NotNow on = h
-    by_outcome outcome.TheVariants.Step on = on
+        outcome.Step)).state
+    by_outcome outcome.NotNow on = h
+    by_outcome outcome.Step on = on
     by_outcome o on = world_after w (go_of t) h
 
 -- a run of a thread alone, and what it comes to

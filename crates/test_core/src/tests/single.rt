@@ -66,7 +66,7 @@ fn lock_once(
         named,
         want,
         again,
-        [locked, lot.word(token, word, Op::Load)],
+        [locked, lot.step_word(token, word, Op::Load)],
     ))
 }
 
@@ -91,12 +91,12 @@ fn found_by_each(lot: &ParkingLot, token: &mut Token, word: Word) -> [u64; 6]
     mutex_may_step();
     let mark = Op::Exchange { from: 1, to: 3 };
     [
-        lot.word(token, word, Op::Exchange { from: 0, to: 1 }),
-        lot.word(token, word, mark),
-        lot.word(token, word, mark),
-        lot.word(token, word, Op::And(!2)),
-        lot.word(token, word, Op::Or(1)),
-        lot.word(token, word, Op::Load),
+        lot.step_word(token, word, Op::Exchange { from: 0, to: 1 }),
+        lot.step_word(token, word, mark),
+        lot.step_word(token, word, mark),
+        lot.step_word(token, word, Op::And(!2)),
+        lot.step_word(token, word, Op::Or(1)),
+        lot.step_word(token, word, Op::Load),
     ]
 }
 
@@ -113,10 +113,10 @@ fn found_by_a_store(lot: &ParkingLot, token: &mut Token, word: Word) -> [u64; 4]
 {
     mutex_may_step();
     [
-        lot.word(token, word, Op::Swap(3)),
-        lot.word(token, word, Op::Store(1)),
-        lot.word(token, word, Op::Add(0)),
-        lot.word(token, word, Op::Load),
+        lot.step_word(token, word, Op::Swap(3)),
+        lot.step_word(token, word, Op::Store(1)),
+        lot.step_word(token, word, Op::Add(0)),
+        lot.step_word(token, word, Op::Load),
     ]
 }
 
@@ -358,7 +358,7 @@ fn forgets<R: Wait + Abort>(rt: &R, lot: &ParkingLot, token: &mut Token, word: W
         number: 0,
     };
     check_eq(rt, token.last_section(), Some(record));
-    lot.word(token, word, Op::Load);
+    lot.step_word(token, word, Op::Load);
     check_eq(rt, token.last_section(), None);
 }
 

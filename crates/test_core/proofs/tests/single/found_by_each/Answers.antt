@@ -16,21 +16,21 @@ may : (word : Word) (op : Op) (owns : List Ownership) → word.kind ≡ Mutex
 may word op owns is step = subst (λ (kind : WordKind). MayStep kind (word_index word.number kind) op owns)
     (sym is) step
 
-pub word-requires-clause-may : goal.word-requires-clause-may
-word-requires-clause-may c = may c.args.word _ _ c.requires.2 ((c.mutex_may_step.ensures _ _).enter 0
+pub step_word-requires-clause-may : goal.step_word-requires-clause-may
+step_word-requires-clause-may c = may c.args.word _ _ c.requires.2 ((c.mutex_may_step.ensures _ _).enter 0
     (search rules) refl)
 
-pub word-requires-2-clause-may : goal.word-requires-2-clause-may
-word-requires-2-clause-may c = may c.args.word _ _ c.requires.2 (c.mutex_may_step.ensures _ _).set_parked
+pub step_word-requires-2-clause-may : goal.step_word-requires-2-clause-may
+step_word-requires-2-clause-may c = may c.args.word _ _ c.requires.2 (c.mutex_may_step.ensures _ _).set_parked
 
-pub word-requires-3-clause-may : goal.word-requires-3-clause-may
-word-requires-3-clause-may c = may c.args.word _ _ c.requires.2 (c.mutex_may_step.ensures _ _).set_parked
+pub step_word-requires-3-clause-may : goal.step_word-requires-3-clause-may
+step_word-requires-3-clause-may c = may c.args.word _ _ c.requires.2 (c.mutex_may_step.ensures _ _).set_parked
 
-pub word-requires-4-clause-may : goal.word-requires-4-clause-may
-word-requires-4-clause-may c = may c.args.word _ _ c.requires.2 (c.mutex_may_step.ensures _ _).clear_parked
+pub step_word-requires-4-clause-may : goal.step_word-requires-4-clause-may
+step_word-requires-4-clause-may c = may c.args.word _ _ c.requires.2 (c.mutex_may_step.ensures _ _).clear_parked
 
-pub word-requires-5-clause-may : goal.word-requires-5-clause-may
-word-requires-5-clause-may c = may c.args.word _ _ c.requires.2 (c.mutex_may_step.ensures _ _).set_locked
+pub step_word-requires-5-clause-may : goal.step_word-requires-5-clause-may
+step_word-requires-5-clause-may c = may c.args.word _ _ c.requires.2 (c.mutex_may_step.ensures _ _).set_locked
 
-pub word-requires-6-clause-may : goal.word-requires-6-clause-may
-word-requires-6-clause-may c = may c.args.word _ _ c.requires.2 (c.mutex_may_step.ensures _ _).load
+pub step_word-requires-6-clause-may : goal.step_word-requires-6-clause-may
+step_word-requires-6-clause-may c = may c.args.word _ _ c.requires.2 (c.mutex_may_step.ensures _ _).load
