@@ -48,7 +48,7 @@ impl From<Stopped> for Failure {
 }
 
 // The most threads of a transcript that is disturbed: each thread disturbs each line.
-const MOST_DISTURBING: usize = 8;
+const MOST_DISTURBING: usize = 16;
 
 /// Replays a transcript over both kinds of queues, and disturbs it where its replay ends well and it has a few
 /// threads.
