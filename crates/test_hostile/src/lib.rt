@@ -1,5 +1,9 @@
-//! Hostile schedules: every step of worlds goes through a slow checker. Nothing is here but tests.
+//! Hostile schedules: every step of a world goes through a slow checker, also where a line of another sort
+//! disturbs the schedule.
 #![tactic(auto)]
 
+pub mod checked;
+pub mod disturbed;
+pub mod scripts;
 #[cfg(test)]
 mod tests;

@@ -1,6 +1,3 @@
-mod checked;
-mod disturbed;
-mod scripts;
 mod walks;
 
 use std::fmt::Debug;

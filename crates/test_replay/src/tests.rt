@@ -2,13 +2,8 @@
 mod bad_input;
 mod broken;
 mod devices;
-mod overtaken;
 mod text;
 
-use crate::{
-    FAIR_RELEASES, LATE_WAITERS, MEANWHILE, MOVES, MUTEXES, ONCES, REFUSALS, RELEASES, RWLOCKS,
-    Replay, SEMAPHORES, SHOWN_MUTEXES, Schedule,
-};
 use core_base::{ListQueues, Queues};
 use core_queues::BucketQueues;
 use devices::{Pieces, Refusal, Short};
@@ -71,56 +66,41 @@ fn leads_to(rt: &impl Abort, replayed: (Vec<u8>, u8), text: &[u8], status: u8) {
     check_eq(rt, ended, status);
 }
 
-/// Each schedule of a table leads to its text and its status, over each kind of queues.
-fn answers(rt: &impl Abort, alloc: Global, table: &[Schedule]) -> Result<(), Fail> {
-    for schedule in table {
-        let replay = schedule.read(alloc)?;
-        answers_over::<ListQueues>(rt, alloc, schedule.name, &replay);
-        answers_over::<BucketQueues>(rt, alloc, schedule.name, &replay);
-    }
-    Ok(())
+/// An input, and what its replay prints.
+struct Input {
+    lines: &'static [u8],
+    told: &'static [u8],
+    status: u8,
 }
 
-fn answers_over<Q: Queues + Drop>(rt: &impl Abort, alloc: Global, name: &str, replay: &Replay) {
-    let (text, status) = replayed_over::<Q, _>(alloc, replay.lines.as_bytes());
-    check_eq(rt, (name, text.as_slice()), (name, replay.told.as_bytes()));
-    check_eq(rt, (name, status), (name, replay.status));
-}
-
-#[test]
-fn answers_inputs(rt: HostRuntime) -> Result<(), Fail> {
-    answers(&rt, rt.alloc(), &MUTEXES)
-}
-
-#[test]
-fn answers_inputs_of_reader_writer_locks(rt: HostRuntime) -> Result<(), Fail> {
-    answers(&rt, rt.alloc(), &RWLOCKS)
-}
-
-#[test]
-fn answers_inputs_of_onces(rt: HostRuntime) -> Result<(), Fail> {
-    answers(&rt, rt.alloc(), &ONCES)
-}
-
-#[test]
-fn answers_inputs_of_semaphores(rt: HostRuntime) -> Result<(), Fail> {
-    answers(&rt, rt.alloc(), &SEMAPHORES)
-}
-
-#[test]
-fn answers_inputs_of_condition_variables(rt: HostRuntime) -> Result<(), Fail> {
-    answers(&rt, rt.alloc(), &RELEASES)?;
-    answers(&rt, rt.alloc(), &MOVES)?;
-    answers(&rt, rt.alloc(), &MEANWHILE)?;
-    answers(&rt, rt.alloc(), &SHOWN_MUTEXES)?;
-    answers(&rt, rt.alloc(), &LATE_WAITERS)?;
-    answers(&rt, rt.alloc(), &REFUSALS)
-}
-
-#[test]
-fn answers_inputs_of_fair_releases_and_bumps(rt: HostRuntime) -> Result<(), Fail> {
-    answers(&rt, rt.alloc(), &FAIR_RELEASES)
-}
+/// Inputs that are read in pieces, and written in pieces.
+const INPUTS: &[Input] = &[
+    Input {
+        lines: b"",
+        told: b"",
+        status: 0,
+    },
+    Input {
+        lines: b"threads 1\nlock m mutex\nshow\n0 fly\nshow\n",
+        told: b"m 0\nline 4 malformed\n",
+        status: 2,
+    },
+    Input {
+        lines: b"threads 1\nlock m mutex\nsho",
+        told: b"line 3 malformed\n",
+        status: 2,
+    },
+    Input {
+        lines: b"threads 1\nlock m mutex\nshow",
+        told: b"m 0\n",
+        status: 0,
+    },
+    Input {
+        lines: b"threads 2\nlock m fair\n0 do lock m\n1 do lock m\nshow\n0 do unlock m\n1 solo\nshow\n",
+        told: b"0 end ok\n1 sleep\nm 3 own=0x queue=1x\n0 end ok\n1 end ok\nm 1 own=1x\n",
+        status: 0,
+    },
+];
 
 /// Returns the end of a replay whose input comes in pieces, and breaks off after them, if it is
 /// to.
@@ -135,17 +115,14 @@ fn replayed_in_pieces(alloc: Global, bytes: &[u8], len: usize, is_broken: bool) 
 }
 
 #[test]
-fn reads_pieces(rt: HostRuntime) -> Result<(), Fail> {
-    for schedule in MUTEXES.iter() {
-        let replay = schedule.read(rt.alloc())?;
+fn reads_pieces(rt: HostRuntime) {
+    for input in INPUTS {
         for len in [1, 2, 3, 127, 128, 129, 130] {
-            let lines = replay.lines.as_bytes();
-            let (text, ended) = replayed_in_pieces(rt.alloc(), lines, len, false);
-            check_eq(&rt, (len, ended), (len, replay.status));
-            check_eq(&rt, (len, text.as_slice()), (len, replay.told.as_bytes()));
+            let (text, ended) = replayed_in_pieces(rt.alloc(), input.lines, len, false);
+            check_eq(&rt, (len, ended), (len, input.status));
+            check_eq(&rt, (len, text.as_slice()), (len, input.told));
         }
     }
-    Ok(())
 }
 
 const STRANGERS: &[u8] = b"threads 1024
@@ -332,13 +309,11 @@ fn a_failing_write_leaves_a_beginning(rt: HostRuntime) -> Result<(), Fail> {
 }
 
 #[test]
-fn a_slow_write_loses_nothing(rt: HostRuntime) -> Result<(), Fail> {
-    for schedule in MUTEXES.iter() {
-        let replay = schedule.read(rt.alloc())?;
-        let found = replayed_into(rt.alloc(), replay.lines.as_bytes(), 9999, Refusal::Fails);
-        leads_to(&rt, found, replay.told.as_bytes(), replay.status);
+fn a_slow_write_loses_nothing(rt: HostRuntime) {
+    for input in INPUTS {
+        let found = replayed_into(rt.alloc(), input.lines, 9999, Refusal::Fails);
+        leads_to(&rt, found, input.told, input.status);
     }
-    Ok(())
 }
 
 /// Arguments that name no job.

@@ -2,7 +2,7 @@
 ghost use Rattle.std.specs.Prelude.{◌≤◌, ◌<◌};
 
 use super::check_eq;
-use super::checked::{Checked, Stop};
+use crate::checked::{Checked, Stop};
 use core_base::{ListQueues, Queues};
 use core_queues::BucketQueues;
 use spec_locks::{
