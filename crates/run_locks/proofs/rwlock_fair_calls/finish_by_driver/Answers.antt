@@ -3,7 +3,7 @@ use Rattle.lot_steps.specs.declared.places.Place.TheVariants.{RwLock}
 use Rattle.run_base.specs.Courses.{Courses, trail_of}
 use Rattle.run_base.specs.Words.{single_word, at_in}
 use Rattle.run_locks.proofs.RwLockCalling.{rwlock_alone}
-use Rattle.run_locks.proofs.rwlock_fair_calls.rest.Goals as goal
+use Rattle.run_locks.proofs.rwlock_fair_calls.finish_by_driver.Goals as goal
 
 pub returns-clause-path : goal.returns-clause-path
 returns-clause-path g c = subst (λ (at : ℕ → ℕ). Courses at c.args.token.now.number
