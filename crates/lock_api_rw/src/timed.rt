@@ -51,8 +51,7 @@ impl<R: RawRwLockTimed, T> RwLock<R, T> {
         }
     }
 
-    /// Reads, or gives up at a deadline, in nanoseconds of the clock. None once the clock has come to
-    /// it.
+    /// Reads, or gives up at a deadline, in nanoseconds of the clock. None once the clock is there.
     ///
     /// # Errors
     ///
@@ -109,8 +108,7 @@ impl<R: RawRwLockTimed, T> RwLock<R, T> {
         Some(self.open_exclusive(raw))
     }
 
-    /// Writes, or gives up at a deadline, in nanoseconds of the clock. None once the clock has come to
-    /// it.
+    /// Writes, or gives up at a deadline, in nanoseconds of the clock. None once the clock is there.
     #[inline]
     pub fn try_write_until<W: Wait, C: Clock>(
         &self,

@@ -181,8 +181,8 @@ impl<Q: Queues + Drop> World<Q> {
             (locks_of self.new) }
 
         // A thread owes a wake since the step that saw waiters, or since it entered the section,
-        // until it leaves it. While threads wait, a run of a `Once` that ends wakes them all, whether
-        // it succeeded or not.
+        // until it leaves it. While threads wait, a run of a `Once` that ends wakes them all, a failed
+        // run too.
         ensures owing { OwesSince self.old step.thread result self.new }
         ensures same_size { SameSize self.old self.new }
     {

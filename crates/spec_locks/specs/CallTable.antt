@@ -92,8 +92,8 @@ abbrev pub IsFullFor : LocksState → ℕ → Want → Type 0
 IsFullFor v l x = (x ≢ Exclusive) × IsFree (rules_at v l) (v.locks l) x
     × ((rules_at v l).limit ≤ count (v.locks l))
 
--- what an answer says of the state v in which the thread t is given it, but for what the thread owns; c is what
--- its call recalls
+-- what an answer says of the state v in which the thread t is given it, but for what the thread owns; c is
+-- what the call recalls
 abbrev pub Says : Purpose → Answer → LocksState → ℕ → CallState → Type 0
 Says (Enters l x Patient) Ok v t c = Owns (v.locks l) t x
 Says (Enters l x Timed) Yes v t c = Owns (v.locks l) t x

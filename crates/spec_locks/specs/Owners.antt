@@ -18,8 +18,8 @@ pub record Rules : Type 0 where
   pub sort : Sort
   pub limit : ℕ
 
--- a writer that waits for the last readers, and whether it falls back to the upgradable right when
--- it gives up
+-- a writer that waits for the last readers, and whether a writer that gives up falls back to the
+-- upgradable right
 pub record Pending : Type 0 where
   pub thread : ℕ
   pub falls_back : Bool

@@ -200,7 +200,7 @@ module _ (w : State) (t l : ℕ) (inductive : IsInductive w) (ran : RunsOrRan w 
   outside e = main ((inductive.stands.sections t l Main).0 (ap (λ x. (location_at x l).inside) at.is
       ∙ ap (λ (x : Location). x.inside) (location_here l (runs_at l at.forced at.to) refl) ∙ e))
 
-  -- its closure has answered
+  -- the closure has answered
   closed_at : (b : Bool) (to : RunAt) → runs_closure (act_of (runs_at l at.forced to)) ≡ true
       → next_place (runs_at l at.forced to) (Closed b) ≡ runs_at l at.forced (run.Close b)
   closed_at b (run.Closure poisoned) runs = refl
